@@ -1,0 +1,1 @@
+// Laws alone, proved once about the definitions of `model`: see proofs/.

@@ -1,0 +1,219 @@
+-- Laws of functions of an index.
+use Prim.Native.Nat.{ℕ, zero, suc, _+_, _-_, _≤_, _<_}
+use mathlib.Core.Path.{_≡_, refl, sym, ap, _∙_, fun-ext}
+use mathlib.Core.Bool.{Bool, true, false, cond, _&&_}
+use native.Mathlib.Numerals.{add-one}
+use native.Mathlib.Omega.{arith}
+use lib.Dec.{eqb, leb, ltb}
+use borrow.Author.Tests.{eq-eqb, ne-eqb, le-leb, lt-leb, lt-ltb, le-ltb, leb-true, leb-false, ltb-true, ltb-false, eqb-true, eqb-false}
+use Rattle.lists.specs.Functions.{put, pasted, from, inside, each, within, numbered}
+
+-- A test's two outcomes, each with its equation: a case split that keeps what was tested.
+pub on : {B : Type 0} (b : Bool) → (b ≡ true → B) → (b ≡ false → B) → B
+on true t f = t refl
+on false t f = f refl
+
+-- The same of where i stands: before, in or after the k places from a on.
+pub by-place : {B : Type 0} (a k i : ℕ) → (i < a → B) → (a ≤ i → i < a + k → B) → (a + k ≤ i → B) → B
+by-place a k i before within after = on (leb a i)
+    (λ p. on (ltb i (a + k)) (λ q. within (leb-true a i p) (ltb-true i (a + k) q)) (λ q. after (ltb-false i (a + k) q)))
+    (λ p. before (leb-false a i p))
+
+pub both : {a b : Bool} → a ≡ true → b ≡ true → (a && b) ≡ true
+both p q = rw (p, q)
+
+pub first : (a b : Bool) → (a && b) ≡ true → a ≡ true
+first true b h = refl
+first false b h = h
+
+pub second : (a b : Bool) → (a && b) ≡ true → b ≡ true
+second true b h = h
+second false true h = refl
+second false false h = h
+
+pub fails : (a : Bool) {b : Bool} → b ≡ false → (a && b) ≡ false
+fails true h = h
+fails false h = refl
+
+pub apart : {b : Bool} → b ≡ true → b ≡ false → ⊥
+apart p q = let z : _≡_ {A = ℕ} 0 1 = ap (λ t. cond t 0 1) (sym p ∙ q) in omega arith
+
+-- One place replaced.
+
+module _ {A : Type 0} where
+  pub put-at : (f : ℕ → A) (k : ℕ) (v : A) → put f k v k ≡ v
+  unfolding put
+  put-at f k v = rw (eq-eqb k k refl)
+
+  pub put-off : (f : ℕ → A) (k : ℕ) (v : A) (i : ℕ) → (i ≡ k → ⊥) → put f k v i ≡ f i
+  unfolding put
+  put-off f k v i h = rw (ne-eqb i k h)
+
+  -- a run of none, and a run with one value more
+  pub pasted-none : (a : ℕ) (g f : ℕ → A) → pasted a 0 g f ≡ f
+  unfolding pasted
+  pasted-none a g f = fun-ext λ i. on (leb a i)
+      (λ p. rw (p, le-ltb i (a + 0) (let q : a ≤ i = leb-true a i p in omega arith)))
+      (λ p. rw p)
+
+  pub pasted-in : (a k : ℕ) (g f : ℕ → A) (i : ℕ) → a ≤ i → i < a + k → pasted a k g f i ≡ g (i - a)
+  unfolding pasted
+  pasted-in a k g f i p q = rw (le-leb a i p, lt-ltb i (a + k) q)
+
+  pub pasted-below : (a k : ℕ) (g f : ℕ → A) (i : ℕ) → i < a → pasted a k g f i ≡ f i
+  unfolding pasted
+  pasted-below a k g f i p = rw (lt-leb a i p)
+
+  pub pasted-above : (a k : ℕ) (g f : ℕ → A) (i : ℕ) → a + k ≤ i → pasted a k g f i ≡ f i
+  unfolding pasted
+  pasted-above a k g f i p = rw (le-leb a i (omega arith), le-ltb i (a + k) p)
+
+  pub pasted-more : (a k : ℕ) (g f : ℕ → A) → put (pasted a k g f) (a + k) (g k) ≡ pasted a (k + 1) g f
+  pasted-more a k g f = fun-ext λ i. on (eqb i (a + k))
+      (λ p. let e : i ≡ a + k = eqb-true i (a + k) p in here i e)
+      (λ p. let n : i ≡ a + k → ⊥ = eqb-false i (a + k) p in
+      put-off (pasted a k g f) (a + k) (g k) i n ∙ rest i n)
+    where
+      here : (i : ℕ) → i ≡ a + k → put (pasted a k g f) (a + k) (g k) i ≡ pasted a (k + 1) g f i
+      here i e =
+          ap (put (pasted a k g f) (a + k) (g k)) e
+          ∙ put-at (pasted a k g f) (a + k) (g k)
+          ∙ ap g (omega arith)
+          ∙ sym (pasted-in a (k + 1) g f i (omega arith) (omega arith))
+
+      rest : (i : ℕ) → (i ≡ a + k → ⊥) → pasted a k g f i ≡ pasted a (k + 1) g f i
+      rest i n = by-place a k i
+          (λ p. pasted-below a k g f i p ∙ sym (pasted-below a (k + 1) g f i p))
+          (λ p q. pasted-in a k g f i p q ∙ sym (pasted-in a (k + 1) g f i p (omega arith)))
+          (λ p. pasted-above a k g f i p ∙ sym (pasted-above a (k + 1) g f i (omega arith)))
+
+  -- the same where the pasted values agree
+  pub pasted-same : (a k : ℕ) (g h f : ℕ → A) → ((i : ℕ) → i < k → g i ≡ h i) → pasted a k g f ≡ pasted a k h f
+  pasted-same a k g h f e = fun-ext λ i. by-place a k i
+      (λ p. pasted-below a k g f i p ∙ sym (pasted-below a k h f i p))
+      (λ p q. pasted-in a k g f i p q ∙ e (i - a) (omega arith) ∙ sym (pasted-in a k h f i p q))
+      (λ p. pasted-above a k g f i p ∙ sym (pasted-above a k h f i p))
+
+-- Each of 1 to n.
+
+pub each-none : (test : ℕ → Bool) → each 0 test ≡ true
+unfolding each
+each-none test = refl
+
+pub each-step : (i : ℕ) (test : ℕ → Bool) → each (i + 1) test ≡ (each i test && test (i + 1))
+unfolding each
+each-step i test = rw add-one
+
+pub each-more : (i : ℕ) (test : ℕ → Bool) → each i test ≡ true → test (i + 1) ≡ true → each (i + 1) test ≡ true
+each-more i test p q = each-step i test ∙ both p q
+
+-- what holds of each holds of one
+pub each-at : (n : ℕ) (test : ℕ → Bool) → each n test ≡ true → (k : ℕ) → 1 ≤ k → k ≤ n → test k ≡ true
+unfolding each
+each-at zero test h k p q = absurd (omega arith)
+each-at (suc n) test h k p q = on (eqb k (suc n))
+    (λ e. rw (eqb-true k (suc n) e) (second (each n test) (test (suc n)) h))
+    (λ e. let d : k ≡ suc n → ⊥ = eqb-false k (suc n) e in
+    each-at n test (first (each n test) (test (suc n)) h) k p (omega arith))
+
+pub each-all : (n : ℕ) (test : ℕ → Bool) → ((k : ℕ) → 1 ≤ k → k ≤ n → test k ≡ true) → each n test ≡ true
+unfolding each
+each-all zero test h = refl
+each-all (suc n) test h = both (each-all n test (λ k p q. h k p (omega arith))) (h (suc n) (omega arith) (omega arith))
+
+-- one that fails
+pub each-fails : (n : ℕ) (test : ℕ → Bool) (k : ℕ) → 1 ≤ k → k ≤ n → test k ≡ false → each n test ≡ false
+each-fails n test k p q h = on (each n test) (λ e. absurd (apart (each-at n test e k p q) h)) (λ e. e)
+
+-- the same where the tests agree on 1 to n
+pub each-same : (n : ℕ) (s t : ℕ → Bool) → ((k : ℕ) → 1 ≤ k → k ≤ n → s k ≡ t k) → each n s ≡ each n t
+unfolding each
+each-same zero s t h = refl
+each-same (suc n) s t h =
+    rw (each-same n s t (λ k p q. h k p (omega arith)), h (suc n) (omega arith) (omega arith))
+
+pub inside-in : (n i : ℕ) → 1 ≤ i → i ≤ n → inside n i ≡ true
+unfolding inside
+inside-in n i p q = both (le-leb 1 i p) (le-leb i n q)
+
+pub inside-zero : (n : ℕ) → inside n 0 ≡ false
+unfolding inside
+inside-zero n = refl
+
+pub inside-above : (n i : ℕ) → n < i → inside n i ≡ false
+unfolding inside
+inside-above n i p = fails (leb 1 i) (lt-leb i n p)
+
+pub inside-low : (n i : ℕ) → inside n i ≡ true → 1 ≤ i
+unfolding inside
+inside-low n i h = leb-true 1 i (first (leb 1 i) (leb i n) h)
+
+pub inside-high : (n i : ℕ) → inside n i ≡ true → i ≤ n
+unfolding inside
+inside-high n i h = leb-true i n (second (leb 1 i) (leb i n) h)
+
+-- Values under the numbers 1 to n.
+
+module _ {A : Type 0} where
+  pub within-at : (n : ℕ) (d : A) (f : ℕ → A) (k : ℕ) → 1 ≤ k → k ≤ n → within n d f k ≡ f k
+  unfolding within
+  within-at n d f k p q = rw (inside-in n k p q)
+
+  pub within-off : (n : ℕ) (d : A) (f : ℕ → A) (k : ℕ) → inside n k ≡ false → within n d f k ≡ d
+  unfolding within
+  within-off n d f k h = rw h
+
+  pub within-same : (n : ℕ) (d : A) (f g : ℕ → A) → ((k : ℕ) → 1 ≤ k → k ≤ n → f k ≡ g k) → within n d f ≡ within n d g
+  within-same n d f g h = fun-ext λ k. on (inside n k)
+      (λ p. let a = inside-low n k p in let b = inside-high n k p in
+      within-at n d f k a b ∙ h k a b ∙ sym (within-at n d g k a b))
+      (λ p. within-off n d f k p ∙ sym (within-off n d g k p))
+
+  -- `numbered` is `within` of the values one place on
+  pub numbered-within : (n : ℕ) (d : A) (f : ℕ → A) → numbered n d f ≡ within n d (λ k. f (k - 1))
+  unfolding numbered within
+  numbered-within n d f = refl
+
+  pub numbered-off : (n : ℕ) (d : A) (f : ℕ → A) (k : ℕ) → inside n k ≡ false → numbered n d f k ≡ d
+  unfolding numbered
+  numbered-off n d f k h = rw h
+
+  pub numbered-at : (n : ℕ) (d : A) (f : ℕ → A) (i : ℕ) → i < n → numbered n d f (i + 1) ≡ f i
+  numbered-at n d f i h =
+      ap (λ g. g (i + 1)) (numbered-within n d f)
+      ∙ within-at n d (λ k. f (k - 1)) (i + 1) (omega arith) (omega arith)
+      ∙ ap f (omega arith)
+
+  pub numbered-same : (n : ℕ) (d : A) (f g : ℕ → A) → ((i : ℕ) → i < n → f i ≡ g i) → numbered n d f ≡ numbered n d g
+  numbered-same n d f g h =
+      numbered-within n d f
+      ∙ within-same n d (λ k. f (k - 1)) (λ k. g (k - 1)) (λ k p q. h (k - 1) (omega arith))
+      ∙ sym (numbered-within n d g)
+
+  -- one value replaced
+  pub numbered-put : (n : ℕ) (d : A) (f : ℕ → A) (i : ℕ) (v : A) → i < n → numbered n d (put f i v) ≡ put (numbered n d f) (i + 1) v
+  unfolding numbered put
+  numbered-put n d f i v h = fun-ext λ k. on (eqb k (i + 1))
+      (λ p. let e : k ≡ i + 1 = eqb-true k (i + 1) p in
+      rw (p, inside-in n k (omega arith) (omega arith), eq-eqb (k - 1) i (omega arith)))
+      (λ p. on (inside n k)
+      (λ q. let d = eqb-false k (i + 1) p in let a = inside-low n k q in
+      rw (p, q, ne-eqb (k - 1) i (λ e. d (omega arith))))
+      (λ q. rw (p, q)))
+
+  -- the first k values alone, the rest blank
+  pub numbered-padded : (n k : ℕ) (d : A) (g : ℕ → A) → k ≤ n → numbered n d (pasted 0 k g (λ i. d)) ≡ numbered k d g
+  numbered-padded n k d g h = fun-ext λ j. by-place 1 k j
+      (λ p. let e : j ≡ 0 = omega arith in rw e (numbered-off n d (pasted 0 k g (λ i. d)) 0 (inside-zero n) ∙ sym (numbered-off k d g 0 (inside-zero k))))
+      (λ p q. let e : j ≡ j - 1 + 1 = omega arith in rw e
+      (numbered-at n d (pasted 0 k g (λ i. d)) (j - 1) (omega arith)
+      ∙ pasted-in 0 k g (λ i. d) (j - 1) (omega arith) (omega arith)
+      ∙ ap g (omega arith)
+      ∙ sym (numbered-at k d g (j - 1) (omega arith))))
+      (λ p. on (inside n j)
+      (λ q. let a = inside-high n j q in let e : j ≡ j - 1 + 1 = omega arith in
+      ap (numbered n d (pasted 0 k g (λ i. d))) e
+      ∙ numbered-at n d (pasted 0 k g (λ i. d)) (j - 1) (omega arith)
+      ∙ pasted-above 0 k g (λ i. d) (j - 1) (omega arith)
+      ∙ sym (numbered-off k d g j (inside-above k j (omega arith))))
+      (λ q. numbered-off n d (pasted 0 k g (λ i. d)) j q ∙ sym (numbered-off k d g j (inside-above k j (omega arith)))))

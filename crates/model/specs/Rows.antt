@@ -1,0 +1,40 @@
+-- Timestamp rows and matrices, and the order on them. Document 01: "A matrix has one row per slot, each with one count per member."
+-- Members and slots are numbered from 1. A board of n looks at 1 to n alone.
+use Prim.Native.Nat.{ℕ}
+use mathlib.Core.Bool.{Bool, cond, _||_}
+use lib.Dec.{leb}
+use Rattle.lists.specs.Functions.{put, inside, each}
+
+-- a count for each member
+abbrev pub Row : Type 0
+Row = ℕ → ℕ
+
+-- a row for each slot
+abbrev pub Matrix : Type 0
+Matrix = ℕ → Row
+
+unfoldable pub zeroRow : Row
+zeroRow k = 0
+
+unfoldable pub zeroMatrix : Matrix
+zeroMatrix j = zeroRow
+
+-- "One row is below another when no entry exceeds its fellow"
+unfoldable pub below : ℕ → Row → Row → Bool
+below n a b = each n (λ k. leb (a k) (b k))
+
+-- ".. a matrix likewise."
+unfoldable pub matrixBelow : ℕ → Matrix → Matrix → Bool
+matrixBelow n a b = each n (λ j. below n (a j) (b j))
+
+-- "Rows are comparable when one is below the other."
+unfoldable pub comparable : ℕ → Row → Row → Bool
+comparable n a b = below n a b || below n b a
+
+-- the larger of two comparable rows; of two that are not comparable, the first
+unfoldable pub larger : ℕ → Row → Row → Row
+larger n a b = cond (below n a b) b a
+
+-- one entry replaced; a member outside 1 to n has none
+unfoldable pub withCount : ℕ → Row → ℕ → ℕ → Row
+withCount n a k count = cond (inside n k) (put a k count) a

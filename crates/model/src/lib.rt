@@ -1,0 +1,1 @@
+// Definitions alone, the ones that every contract cites: see specs/.

@@ -1,0 +1,83 @@
+-- `Row::below` meets its contract: each entry passed is not above its fellow. Assumes nothing.
+use borrow.Author.Needs.{needs}
+use Prim.Native.Nat.{ℕ, _+_, _-_, _≤_, _<_, min}
+use mathlib.Core.Path.{_≡_, refl, sym, ap, _∙_}
+use mathlib.Core.Bool.{Bool, true, false}
+use native.Mathlib.Omega.{arith}
+use lib.Dec.{leb}
+use borrow.Author.Tests.{le-leb, lt-leb}
+use Rattle.lists.specs.Functions.{each}
+use Rattle.lists.proofs.Functions.{each-none, each-more, each-fails}
+use Rattle.model.specs.Rows.{below}
+use Rattle.rows.specs.Meaning.{rowIn}
+use Rattle.rows.proofs.Laws.{below-more, below-fails}
+use Rattle.rows.proofs.Row.below.Statement.{statement}
+use Rattle.rows.proofs.Row.below.Tie as tie
+
+abbrev Inv-loop : tie.InvT-loop
+Inv-loop n self other last i₀ i = (i ≤ last) × ((last ≤ 12) × (below i (rowIn self) (rowIn other) ≡ true))
+
+abbrev μ-loop : tie.MeasureT-loop
+μ-loop n self other last i₀ i = last - i
+
+entries-requires : tie.Need-entries-requires Inv-loop μ-loop
+entries-requires c κs = search needs
+
+loop-holds : tie.Need-loop-holds Inv-loop μ-loop
+unfolding below
+loop-holds c = (search needs, (omega arith, each-none _))
+
+mul-if1 : tie.Need-mul-if1 Inv-loop μ-loop
+mul-if1 c = search needs
+
+element-copy-out-if1 : tie.Need-element-copy-out-if1 Inv-loop μ-loop
+element-copy-out-if1 c = search needs
+
+mul-if1-2 : tie.Need-mul-if1-2 Inv-loop μ-loop
+mul-if1-2 c = search needs
+
+element-copy-out-if1-2 : tie.Need-element-copy-out-if1-2 Inv-loop μ-loop
+element-copy-out-if1-2 c = search needs
+
+returns : tie.Need-returns Inv-loop μ-loop
+returns c =
+    let a = c .before .before .before .before .before .before .args in
+    let e = c .before .before .before .before .before .entries .ensures in
+    let l = c .before .before .before .before .loop in
+    sym (below-fails (a .t1) (a .t2) (min (a .n) 12) (l .i) (omega arith) (omega arith) (c .if1 .taken))
+
+add-i : tie.Need-add-i Inv-loop μ-loop
+add-i c = search needs
+
+loop-less : tie.Need-loop-less Inv-loop μ-loop
+loop-less c = search needs
+
+loop-again : tie.Need-loop-again Inv-loop μ-loop
+loop-again c =
+    let a = c .before .before .before .before .before .before .args in
+    let l = c .before .before .before .before .loop in
+    (search needs, (search needs, below-more (a .t1) (a .t2) (l .i) (omega arith) (l .inv .1 .1) (c .if1 .left)))
+
+returns-2 : tie.Need-returns-2 Inv-loop μ-loop
+returns-2 c =
+    let l = c .before .loop in
+    let e : l .i ≡ min (c .before .before .before .args .n) 12 = omega (arith, c .before .before .entries .ensures) in
+    sym (rw (← e) (l .inv .1 .1))
+
+pub below-spec : {M : Type 1} → statement M
+below-spec =
+    tie.close
+    (tie.spec
+    Inv-loop
+    μ-loop
+    entries-requires
+    loop-holds
+    mul-if1
+    element-copy-out-if1
+    mul-if1-2
+    element-copy-out-if1-2
+    returns
+    add-i
+    loop-less
+    loop-again
+    returns-2)

@@ -1,0 +1,95 @@
+use borrow.Author.Needs.{needs}
+use Prim.Native.Nat.{ℕ, _+_, _-_, _≤_, _<_, min}
+use mathlib.Core.Path.{_≡_, refl, sym, ap, _∙_}
+use mathlib.Core.Bool.{Bool, true, false}
+use native.Mathlib.Omega.{arith}
+use borrow.Author.Tests.{not-true, not-false}
+use Rattle.lists.specs.Functions.{each}
+use Rattle.lists.proofs.Functions.{each-none}
+use Rattle.model.specs.Rows.{below, matrixBelow}
+use Rattle.rows.specs.Meaning.{rowIn, matrixIn}
+use Rattle.rows.proofs.Laws.{rows-below-more, rows-below-fails}
+use Rattle.rows.proofs.matrix_below.Statement.{statement}
+use Rattle.rows.proofs.matrix_below.Tie as tie
+use Rattle.rows.proofs.matrix_below.Reads as reads
+use Rattle.rows.proofs.matrix_below.Lts as lts
+use Rattle.rows.proofs.Row.below.Reads as below-reads
+use Rattle.rows.proofs.entries.Reads as entries-reads
+
+abbrev Inv-loop : tie.InvT-loop
+Inv-loop n a b last j₀ j = (j ≤ last) × ((last ≡ min n 12) × (each j (λ k. below (min n 12) (matrixIn a k) (matrixIn b k)) ≡ true))
+
+abbrev μ-loop : tie.MeasureT-loop
+μ-loop n a b last j₀ j = last - j
+
+entries-requires : tie.Need-entries-requires Inv-loop μ-loop
+entries-requires c κs = search needs
+
+loop-holds : tie.Need-loop-holds Inv-loop μ-loop
+loop-holds c = (search needs, (omega arith, each-none _))
+
+mul-below : tie.Need-mul-below Inv-loop μ-loop
+mul-below c = search needs
+
+array-copy-out-below : tie.Need-array-copy-out-below Inv-loop μ-loop
+array-copy-out-below c = search needs
+
+mul-below-2 : tie.Need-mul-below-2 Inv-loop μ-loop
+mul-below-2 c = search needs
+
+array-copy-out-below-2 : tie.Need-array-copy-out-below-2 Inv-loop μ-loop
+array-copy-out-below-2 c = search needs
+
+below-requires : tie.Need-below-requires Inv-loop μ-loop
+below-requires c κs = search needs
+
+returns : tie.Need-returns Inv-loop μ-loop
+returns c =
+    let a = c .before .before .before .before .before .before .before .args in
+    let l = c .before .before .before .before .before .loop in
+    sym (rows-below-fails (a .t1) (a .t2) (min (a .n) 12) (l .j) (omega arith) (omega arith)
+    (sym (c .before .below .ensures) ∙ not-true _ (c .if1 .taken)))
+
+add-j : tie.Need-add-j Inv-loop μ-loop
+add-j c = search needs
+
+loop-less : tie.Need-loop-less Inv-loop μ-loop
+loop-less c = search needs
+
+loop-again : tie.Need-loop-again Inv-loop μ-loop
+loop-again c =
+    let a = c .before .before .before .before .before .before .before .args in
+    let l = c .before .before .before .before .before .loop in (
+      search needs,
+      (
+        search needs,
+        rows-below-more (a .t1) (a .t2) (min (a .n) 12) (l .j) (omega arith) (l .inv .1 .1)
+            (sym (c .before .below .ensures) ∙ not-false _ (c .if1 .left)),
+      ),
+    )
+
+returns-2 : tie.Need-returns-2 Inv-loop μ-loop
+unfolding matrixBelow
+returns-2 c =
+    let l = c .before .loop in
+    let e : l .j ≡ min (c .before .before .before .args .n) 12 = omega arith in
+    sym (rw e at (l .inv .1 .1))
+
+pub matrix-below-spec : {M : Type 1} → statement M
+matrix-below-spec =
+    tie.close
+    (tie.spec
+    Inv-loop
+    μ-loop
+    entries-requires
+    loop-holds
+    mul-below
+    array-copy-out-below
+    mul-below-2
+    array-copy-out-below-2
+    below-requires
+    returns
+    add-j
+    loop-less
+    loop-again
+    returns-2)
