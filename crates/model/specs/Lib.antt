@@ -1,3 +1,12 @@
 pub mod Rows
 pub mod Records
+pub mod Kinds
+pub mod Numbers
+pub mod Member
+pub mod Host
+pub mod Board
+pub mod Runs
+pub mod Reference
+pub mod History
+pub mod Demand3
 pub mod RecordWords

@@ -1,0 +1,34 @@
+-- The number that a call is answered with: document 01's "Numbers by the place of the check", from number 4 on, top down. 0 is the
+-- answer where no ground holds. Each is a function of the member's phase and crash mark, of its own count on the slot, and of the
+-- arguments, so that the contracts, the board and the reference share it.
+use Prim.Native.Nat.{ℕ}
+use mathlib.Core.Bool.{Bool, cond, not, _&&_, _||_}
+use lib.Dec.{eqb, leb}
+use Rattle.lists.specs.Functions.{inside}
+use Rattle.model.specs.Kinds.{Kind, isOperation, barred}
+
+-- begin, by member i, on slot r, of type t
+unfoldable pub beginAnswer : Kind → ℕ → ℕ → ℕ → ℕ → ℕ → ℕ → ℕ → ℕ
+beginAnswer kind n phase crashed count i r t =
+    cond (not (inside n i)) 4
+    (cond (not (inside n r)) 5
+    (cond (not (isOperation t)) 6
+    (cond (barred kind i r t) 7
+    (cond (not (eqb phase 0) || not (eqb crashed 0)) 8
+    (cond (leb (kind .limit) count) 9
+    0)))))
+
+-- deliver, to or from member i: "10 phase 0 or 6; crashed in phase 2, 4 or 5"
+unfoldable pub deliverAnswer : ℕ → ℕ → ℕ → ℕ → ℕ
+deliverAnswer n phase crashed i =
+    cond (not (inside n i)) 4
+    (cond (eqb phase 0 || eqb phase 6) 10
+    (cond (not (eqb crashed 0) && (eqb phase 2 || eqb phase 4 || eqb phase 5)) 10
+    0))
+
+-- crash of member i: "11 already crashed, or halted"
+unfoldable pub crashAnswer : ℕ → ℕ → ℕ → ℕ → ℕ
+crashAnswer n phase crashed i =
+    cond (not (inside n i)) 4
+    (cond (not (eqb crashed 0) || eqb phase 6) 11
+    0)
