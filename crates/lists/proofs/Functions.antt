@@ -9,7 +9,7 @@ use borrow.Author.Tests.{eq-eqb, ne-eqb, le-leb, lt-leb, lt-ltb, le-ltb, leb-tru
 use Rattle.lists.specs.Functions.{put, pasted, from, inside, each, within, numbered}
 
 -- A test's two outcomes, each with its equation: a case split that keeps what was tested.
-pub on : {B : Type 0} (b : Bool) → (b ≡ true → B) → (b ≡ false → B) → B
+pub on {ℓ} : {B : Type ℓ} (b : Bool) → (b ≡ true → B) → (b ≡ false → B) → B
 on true t f = t refl
 on false t f = f refl
 
@@ -48,6 +48,18 @@ module _ {A : Type 0} where
   pub put-off : (f : ℕ → A) (k : ℕ) (v : A) (i : ℕ) → (i ≡ k → ⊥) → put f k v i ≡ f i
   unfolding put
   put-off f k v i h = rw (ne-eqb i k h)
+
+  -- replaced by what was there
+  pub put-same : (f : ℕ → A) (k : ℕ) → put f k (f k) ≡ f
+  put-same f k = fun-ext λ i. on (eqb i k)
+      (λ e. let d : i ≡ k = eqb-true i k e in rw d (put-at f k (f k)))
+      (λ e. put-off f k (f k) i (eqb-false i k e))
+
+  -- what holds of the new value at its place, and of the others at theirs, holds everywhere
+  pub put-all : (Q : ℕ → A → Type 0) (f : ℕ → A) (k : ℕ) (v : A) → Q k v → ((i : ℕ) → (i ≡ k → ⊥) → Q i (f i)) → (i : ℕ) → Q i (put f k v i)
+  put-all Q f k v here off i = on (eqb i k)
+      (λ e. let d : i ≡ k = eqb-true i k e in rw d (rw (put-at f k v) here))
+      (λ e. let d = eqb-false i k e in rw (put-off f k v i d) (off i d))
 
   -- a run of none, and a run with one value more
   pub pasted-none : (a : ℕ) (g f : ℕ → A) → pasted a 0 g f ≡ f
@@ -93,6 +105,13 @@ module _ {A : Type 0} where
       (λ p. pasted-below a k g f i p ∙ sym (pasted-below a k h f i p))
       (λ p q. pasted-in a k g f i p q ∙ e (i - a) (omega arith) ∙ sym (pasted-in a k h f i p q))
       (λ p. pasted-above a k g f i p ∙ sym (pasted-above a k h f i p))
+
+-- two functions at once
+pub put-both : {A B : Type 0} (Q : ℕ → A → B → Type 0) (f : ℕ → A) (g : ℕ → B) (k : ℕ) (v : A) (w : B)
+    → Q k v w → ((i : ℕ) → (i ≡ k → ⊥) → Q i (f i) (g i)) → (i : ℕ) → Q i (put f k v i) (put g k w i)
+put-both Q f g k v w here off i = on (eqb i k)
+    (λ e. let d : i ≡ k = eqb-true i k e in rw d (rw (put-at f k v, put-at g k w) here))
+    (λ e. let d = eqb-false i k e in rw (put-off f k v i d, put-off g k w i d) (off i d))
 
 -- Each of 1 to n.
 

@@ -46,6 +46,40 @@ idle = record {
   second = zeroRecord;
 }
 
+-- a step within an operation: m in another phase, with another halt number and other message records
+abbrev pub moved : Member → ℕ → ℕ → Rec → Rec → Member
+moved m phase halt first second = record {
+  phase = phase;
+  crashed = m .crashed;
+  halt = halt;
+  slot = m .slot;
+  operation = m .operation;
+  own = m .own;
+  accepted = m .accepted;
+  last = m .last;
+  pending = m .pending;
+  known = m .known;
+  first = first;
+  second = second;
+}
+
+-- the end of an operation: "Phase 0; slot, type, pending sheet and messages zeroed", with what is taken over from it
+abbrev pub rested : Member → (ℕ → ℕ) → Value → Matrix → Member
+rested m accepted last known = record {
+  phase = 0;
+  crashed = m .crashed;
+  halt = m .halt;
+  slot = 0;
+  operation = 0;
+  own = m .own;
+  accepted = accepted;
+  last = last;
+  pending = zeroValue;
+  known = known;
+  first = zeroRecord;
+  second = zeroRecord;
+}
+
 -- Begin (3.1 to 3.5, 3.16): "the slot's own count rises by one; slot and type are noted; pending sheet is the given one for a write,
 -- the last accepted own sheet for a read; phase 1."
 unfoldable pub begun : Member → ℕ → ℕ → Value → Member
@@ -66,20 +100,7 @@ begun m r t v = record {
 
 -- The host has taken the submit and answered with its newest and its stored record of the slot (5.6). Phase 2.
 unfoldable pub answered : Member → Rec → Rec → Member
-answered m newest stored = record {
-  phase = 2;
-  crashed = m .crashed;
-  halt = m .halt;
-  slot = m .slot;
-  operation = m .operation;
-  own = m .own;
-  accepted = m .accepted;
-  last = m .last;
-  pending = m .pending;
-  known = m .known;
-  first = newest;
-  second = stored;
-}
+answered m newest stored = moved m 2 (m .halt) newest stored
 
 -- The checks of a reply, in order.
 
@@ -141,37 +162,11 @@ ownRecord n i m newest = record {
 
 -- "Else the first message record becomes its own record and phase 3. The second message record stays."
 unfoldable pub passed : ℕ → ℕ → Member → Rec → Rec → Member
-passed n i m newest stored = record {
-  phase = 3;
-  crashed = m .crashed;
-  halt = m .halt;
-  slot = m .slot;
-  operation = m .operation;
-  own = m .own;
-  accepted = m .accepted;
-  last = m .last;
-  pending = m .pending;
-  known = m .known;
-  first = ownRecord n i m newest;
-  second = stored;
-}
+passed n i m newest stored = moved m 3 (m .halt) (ownRecord n i m newest) stored
 
 -- "On a failure: phase 6, the halt number, both message records zeroed."
 unfoldable pub failed : Member → ℕ → Member
-failed m number = record {
-  phase = 6;
-  crashed = m .crashed;
-  halt = number;
-  slot = m .slot;
-  operation = m .operation;
-  own = m .own;
-  accepted = m .accepted;
-  last = m .last;
-  pending = m .pending;
-  known = m .known;
-  first = zeroRecord;
-  second = zeroRecord;
-}
+failed m number = moved m 6 number zeroRecord zeroRecord
 
 -- Taking a reply (3.6 to 3.19): the newest and the stored record, and the seals value.
 unfoldable pub replied : ℕ → ℕ → Member → Rec → Rec → ℕ → Member
@@ -181,56 +176,17 @@ replied n i m newest stored seals =
 
 -- The host has taken the commit and sent its verdict: phase 4 accepted, 5 aborted.
 unfoldable pub judged : Member → Bool → Member
-judged m won = record {
-  phase = cond won 4 5;
-  crashed = m .crashed;
-  halt = m .halt;
-  slot = m .slot;
-  operation = m .operation;
-  own = m .own;
-  accepted = m .accepted;
-  last = m .last;
-  pending = m .pending;
-  known = m .known;
-  first = m .first;
-  second = m .second;
-}
+judged m won = moved m (cond won 4 5) (m .halt) (m .first) (m .second)
 
 -- Taking the outcome accepted (3.20, 3.21, 3.25 to 3.27): "the known matrix becomes the record's, the accepted count the own count,
--- for a write the last own sheet the pending one. Phase 0; slot, type, pending sheet and messages zeroed."
+-- for a write the last own sheet the pending one."
 unfoldable pub completed : Member → Member
-completed m = record {
-  phase = 0;
-  crashed = m .crashed;
-  halt = m .halt;
-  slot = 0;
-  operation = 0;
-  own = m .own;
-  accepted = put (m .accepted) (m .slot) (m .own (m .slot));
-  last = cond (eqb (m .operation) write) (m .pending) (m .last);
-  pending = zeroValue;
-  known = m .first .matrix;
-  first = zeroRecord;
-  second = zeroRecord;
-}
+completed m = rested m (put (m .accepted) (m .slot) (m .own (m .slot))) (cond (eqb (m .operation) write) (m .pending) (m .last)) (m .first .matrix)
 
 -- Taking the outcome aborted (3.22 to 3.24): "as 4's zeroing, phase 0, and nothing else." Amendment 1: line 3.21 takes over the matrix
 -- of an aborted operation too; here only an accepted one's is taken over.
 unfoldable pub dropped : Member → Member
-dropped m = record {
-  phase = 0;
-  crashed = m .crashed;
-  halt = m .halt;
-  slot = 0;
-  operation = 0;
-  own = m .own;
-  accepted = m .accepted;
-  last = m .last;
-  pending = zeroValue;
-  known = m .known;
-  first = zeroRecord;
-  second = zeroRecord;
-}
+dropped m = rested m (m .accepted) (m .last) (m .known)
 
 unfoldable pub outcome : Member → Bool → Member
 outcome m won = cond won (completed m) (dropped m)

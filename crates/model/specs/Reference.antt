@@ -51,6 +51,10 @@ refIdle = record {
 unfoldable pub refOpened : Reference
 refOpened = record { values = λ r. zeroValue; members = λ i. refIdle; history = [] }
 
+-- the reference with one member's part replaced
+abbrev pub refWith : Reference → ℕ → RefMember → Reference
+refWith ref i m = record { values = ref .values; members = put (ref .members) i m; history = ref .history }
+
 -- "Begin: the operation runs, not overtaken, with its slot, type and, for a write, the given sheet."
 unfoldable pub refBegun : RefMember → ℕ → ℕ → Value → RefMember
 refBegun m r t v = record {
@@ -64,30 +68,25 @@ refBegun m r t v = record {
   noted = zeroValue;
 }
 
--- the running operation moved on to a phase
-unfoldable pub refMoved : RefMember → ℕ → RefMember
-refMoved m phase = record {
+-- m with another phase, crash mark, overtaken or noted value
+abbrev pub changed : RefMember → ℕ → ℕ → Bool → Value → RefMember
+changed m phase crashed overtaken noted = record {
   phase = phase;
-  crashed = m .crashed;
+  crashed = crashed;
   begins = m .begins;
   slot = m .slot;
   operation = m .operation;
   value = m .value;
-  overtaken = m .overtaken;
-  noted = m .noted;
+  overtaken = overtaken;
+  noted = noted;
 }
 
+-- the running operation moved on to a phase
+unfoldable pub refMoved : RefMember → ℕ → RefMember
+refMoved m phase = changed m phase (m .crashed) (m .overtaken) (m .noted)
+
 unfoldable pub refOvertaken : RefMember → RefMember
-refOvertaken m = record {
-  phase = m .phase;
-  crashed = m .crashed;
-  begins = m .begins;
-  slot = m .slot;
-  operation = m .operation;
-  value = m .value;
-  overtaken = true;
-  noted = m .noted;
-}
+refOvertaken m = changed m (m .phase) (m .crashed) true (m .noted)
 
 -- a running operation on slot r "past its first deliver and not its third"
 unfoldable pub submittedOn : ℕ → RefMember → Bool
@@ -105,25 +104,12 @@ refSubmit ref i =
 
 -- "Second: nothing."
 unfoldable pub refReply : Reference → ℕ → Reference
-refReply ref i = record {
-  values = ref .values;
-  members = put (ref .members) i (refMoved (ref .members i) 3);
-  history = ref .history;
-}
+refReply ref i = refWith ref i (refMoved (ref .members i) 3)
 
 -- "Third: the host takes its commit, the verdict. If overtaken it is aborted; else it is accepted and joins the history's end, a write's
 -- sheet becomes the slot's, a read notes the slot's."
 unfoldable pub refAccepted : RefMember → Value → RefMember
-refAccepted m v = record {
-  phase = 4;
-  crashed = m .crashed;
-  begins = m .begins;
-  slot = m .slot;
-  operation = m .operation;
-  value = m .value;
-  overtaken = m .overtaken;
-  noted = v;
-}
+refAccepted m v = changed m 4 (m .crashed) (m .overtaken) v
 
 unfoldable pub operationOf : ℕ → RefMember → Operation
 operationOf i m = record { member = i; slot = m .slot; operation = m .operation; value = m .value }
@@ -139,11 +125,7 @@ refAccept ref i =
     }
 
 unfoldable pub refAbort : Reference → ℕ → Reference
-refAbort ref i = record {
-  values = ref .values;
-  members = put (ref .members) i (refMoved (ref .members i) 5);
-  history = ref .history;
-}
+refAbort ref i = refWith ref i (refMoved (ref .members i) 5)
 
 unfoldable pub refCommit : Reference → ℕ → Reference
 refCommit ref i = cond (ref .members i .overtaken) (refAbort ref i) (refAccept ref i)
@@ -162,11 +144,7 @@ refEnded m = record {
 }
 
 unfoldable pub refEnd : Reference → ℕ → Reference
-refEnd ref i = record {
-  values = ref .values;
-  members = put (ref .members) i (refEnded (ref .members i));
-  history = ref .history;
-}
+refEnd ref i = refWith ref i (refEnded (ref .members i))
 
 -- ".. an accepted read returns the noted sheet, any other operation none."
 unfoldable pub refReturned : RefMember → Option Value
@@ -183,16 +161,7 @@ refDelivered ref i =
 
 -- "A crash answered 0 sets the mark only."
 unfoldable pub refMarked : RefMember → RefMember
-refMarked m = record {
-  phase = m .phase;
-  crashed = 1;
-  begins = m .begins;
-  slot = m .slot;
-  operation = m .operation;
-  value = m .value;
-  overtaken = m .overtaken;
-  noted = m .noted;
-}
+refMarked m = changed m (m .phase) 1 (m .overtaken) (m .noted)
 
 -- "It answers a call by the numbers further below, read with its own phase and mark and with its begins on that slot for the own count;
 -- 2 and 3 never hold."
@@ -204,17 +173,9 @@ refAnswer kind n ref (deliver i) = let m = ref .members i in deliverAnswer n (m 
 refAnswer kind n ref (crash i) = let m = ref .members i in crashAnswer n (m .phase) (m .crashed) i
 
 unfoldable pub refDone : Reference → Call → Reference
-refDone ref (begin i r t v) = record {
-  values = ref .values;
-  members = put (ref .members) i (refBegun (ref .members i) r t v);
-  history = ref .history;
-}
+refDone ref (begin i r t v) = refWith ref i (refBegun (ref .members i) r t v)
 refDone ref (deliver i) = refDelivered ref i
-refDone ref (crash i) = record {
-  values = ref .values;
-  members = put (ref .members) i (refMarked (ref .members i));
-  history = ref .history;
-}
+refDone ref (crash i) = refWith ref i (refMarked (ref .members i))
 
 unfoldable pub refDoneReturns : Reference → Call → Option Value
 refDoneReturns ref (begin i r t v) = none

@@ -6,7 +6,7 @@ use native.Mathlib.Omega.{arith}
 use lib.ListN.{length}
 use Rattle.lists.proofs.Functions.{inside-zero, inside-above}
 use Rattle.lists.specs.Functions.{put, inside}
-use Rattle.laws.proofs.Rows.{withCount-in, withCount-out}
+use Rattle.model.proofs.Rows.{withCount-in, withCount-out}
 use Rattle.rows.specs.Meaning.{rowIn}
 use Rattle.rows.proofs.Laws.{count-set}
 use Rattle.rows.proofs.Row.with.Statement.{statement}

@@ -1,0 +1,381 @@
+-- Steps that change the host: a submit taken, a commit accepted.
+use Prim.Native.Nat.{ℕ, _+_, _≤_, _<_}
+use native.Mathlib.Omega.{arith}
+use mathlib.Core.Path.{_≡_, refl, sym, ap, _∙_}
+use mathlib.Core.Bool.{Bool, true, false, cond, not, _&&_, _||_}
+use mathlib.Core.List.{List, _∷_}
+use lib.Dec.{eqb, leb}
+use borrow.Author.Tests.{eqb-true, eqb-false, eq-eqb, ne-eqb}
+use Rattle.lists.specs.Functions.{put, inside}
+use Rattle.lists.proofs.Functions.{on, first, second, apart, put-at, put-off, put-same, put-all, put-both, inside-low}
+use Rattle.model.specs.Rows.{Row, Matrix}
+use Rattle.model.specs.Records.{Value, Rec, read, write}
+use Rattle.model.specs.Kinds.{Kind, becomesStored}
+use Rattle.model.specs.Member.{Member, answered, judged}
+use Rattle.model.specs.Host.{Entry, submitted, wins, entryAfter, storedAfter}
+use Rattle.model.specs.Board.{Board, submitTaken, sentRecord, commitTaken}
+use Rattle.model.specs.Reference.{Operation, RefMember, Reference, changed, refMoved, refOvertaken, submittedOn, refSubmit, refAccepted, operationOf, refAccept}
+use Rattle.model.proofs.Order.{_≼_, Ordered, up, down, ≼-refl, ≼-trans}
+use Rattle.model.proofs.Invariant.{Tops, Grown, was, isNew, SlotInv, countOn, marked, Running, Replied, Current, Committed, Extends, Accepted, MemberInv, Inv}
+
+-- Another member while a slot's entry changes: only whether its own operation is overtaken may have changed. `over` is what the
+-- reference says of that now.
+bystander : {P Q : Tops} {n k : ℕ} {m : Member} {f : RefMember} {e e′ : Entry} {s s′ : Rec} (over : Bool)
+    → ((j : ℕ) (a : Row) → P j a → Q j a)
+    → MemberInv P n k m f e s
+    → (m .phase ≡ 1 → over ≡ false)
+    → (2 ≤ m .phase → m .phase ≤ 3 → over ≡ not (marked e′ k (m .own (m .slot))))
+    → (2 ≤ m .phase → m .phase ≤ 3 → over ≡ false → (f .overtaken ≡ false) × (e .newest ≡ e′ .newest) × (s ≡ s′))
+    → MemberInv Q n k m (changed f (f .phase) (f .crashed) over (f .noted)) e′ s′
+bystander {k = k} {m = m} {f = f} {e = e} {e′ = e′} {s = s} {s′ = s′} over grow old fresh mark same = record {
+  phase = old .phase;
+  crashed = old .crashed;
+  own = old .own;
+  slot = old .slot;
+  operation = old .operation;
+  value = old .value;
+  fine = old .fine;
+  order = old .order;
+  knownTops = λ j. grow j _ (old .knownTops j);
+  running = old .running;
+  fresh = fresh;
+  mark = mark;
+  replied = λ p. let r = old .replied p in record {
+    firstTops = λ j. grow j _ (r .firstTops j);
+    knownBelow = r .knownBelow;
+    ownEntry = r .ownEntry;
+    secondMember = r .secondMember;
+    secondBelow = r .secondBelow;
+    secondSame = r .secondSame;
+  };
+  current = λ p o. let t = same (omega arith) (omega arith) o in let c = old .current p (t .0) in record {
+    isNewest = c .isNewest ∙ t .1;
+    isStored = c .isStored ∙ t .2;
+  };
+  committed = λ p. let c = old .committed p in record { otherTops = λ j d. grow j _ (c .otherTops j d); ownValue = c .ownValue };
+  extends = λ p o. let t = same (omega arith) (omega arith) o in let x = old .extends p (t .0) in record {
+    above = λ j. rw (← t .1) (x .above j);
+    row = x .row ∙ ap (λ c. put (c .matrix (m .slot)) k (m .own (m .slot))) (t .1);
+    isStored = x .isStored ∙ t .2;
+  };
+  accepted = λ p. let a = old .accepted p in record { allTops = λ j. grow j _ (a .allTops j); readNoted = a .readNoted };
+}
+
+-- the newest submit is another's
+not-marked : (e : Entry) (i k count : ℕ) → e .submitMember ≡ i → (k ≡ i → ⊥) → marked e k count ≡ false
+not-marked e i k count p d = rw (ne-eqb (e .submitMember) k (λ q. d (sym q ∙ p)))
+
+-- A submit taken.
+
+between : (p : ℕ) → (eqb p 2 || eqb p 3) ≡ true → (2 ≤ p) × (p ≤ 3)
+between p h = on (eqb p 2)
+    (λ e. let d : p ≡ 2 = eqb-true p 2 e in (omega arith, omega arith))
+    (λ e. let d : p ≡ 3 = eqb-true p 3 (rw e at h) in (omega arith, omega arith))
+
+is-between : (p : ℕ) → 2 ≤ p → p ≤ 3 → (eqb p 2 || eqb p 3) ≡ true
+is-between p g h = on (eqb p 2) (λ e. rw e) (λ e. let d = eqb-false p 2 e in rw (e, eq-eqb p 3 (omega arith)))
+
+module _ {n : ℕ} {b : Board} {ref : Reference} (inv : Inv n b ref) (i : ℕ) (e : b .members i .phase ≡ 1) where
+  abbrev m₁ : Member
+  m₁ = b .members i
+
+  abbrev r₁ : ℕ
+  r₁ = b .members i .slot
+
+  abbrev entry₁ : Entry
+  entry₁ = submitted (b .host r₁) i (m₁ .own r₁)
+
+  -- the newest records stay
+  newest-kept : (k : ℕ) → put (b .host) r₁ entry₁ k .newest ≡ b .host k .newest
+  unfolding submitted
+  newest-kept = put-all (λ k x. x .newest ≡ b .host k .newest) (b .host) r₁ entry₁ refl (λ k d. refl)
+
+  submit-self : MemberInv (inv .P) n i (answered m₁ (b .host r₁ .newest) (b .stored r₁)) (refMoved (ref .members i) 2) entry₁ (b .stored r₁)
+  unfolding answered refMoved submitted
+  submit-self =
+      let old = inv .members i in
+      let run = old .running (omega arith) in
+      let slot = inv .slots (m₁ .slot) in
+      record {
+        phase = refl;
+        crashed = old .crashed;
+        own = old .own;
+        slot = old .slot;
+        operation = old .operation;
+        value = old .value;
+        fine = omega arith;
+        order = old .order;
+        knownTops = old .knownTops;
+        running = λ h. run;
+        fresh = λ p. absurd (omega arith);
+        mark = λ g h. old .fresh e ∙ rw (eq-eqb i i refl, eq-eqb (m₁ .own r₁) (m₁ .own r₁) refl);
+        replied = λ p. record {
+          firstTops = inv .newest r₁;
+          knownBelow = inv .top r₁ (m₁ .known r₁) (old .knownTops r₁);
+          ownEntry = inv .counts r₁ i ∙ rw e refl;
+          secondMember = slot .storedMember (run .slotIn);
+          secondBelow = slot .storedBelow;
+          secondSame = slot .storedSame;
+        };
+        current = λ p o. record { isNewest = refl; isStored = refl };
+        committed = λ p. absurd (omega arith);
+        extends = λ p. absurd (omega arith);
+        accepted = λ p. absurd (omega arith);
+      }
+
+  submit-other : (k : ℕ) → (k ≡ i → ⊥)
+      → MemberInv (inv .P) n k (b .members k)
+      (cond (submittedOn (ref .members i .slot) (ref .members k)) (refOvertaken (ref .members k)) (ref .members k))
+      (put (b .host) r₁ entry₁ (b .members k .slot)) (b .stored (b .members k .slot))
+  unfolding submittedOn refOvertaken submitted
+  submit-other k d =
+      let old = inv .members k in
+      let f = ref .members k in
+      let m = b .members k in
+      let q = ref .members i .slot in
+      let qr : r₁ ≡ q = inv .members i .slot in
+      let sf : m .slot ≡ f .slot = old .slot in
+      let pf : m .phase ≡ f .phase = old .phase in
+      on (eqb (f .slot) q)
+      (λ s.
+      let at : put (b .host) r₁ entry₁ (m .slot) ≡ entry₁ =
+      ap (put (b .host) r₁ entry₁) (sf ∙ eqb-true (f .slot) q s ∙ sym qr) ∙ put-at (b .host) r₁ entry₁ in
+      on (eqb (f .phase) 2 || eqb (f .phase) 3)
+      (λ t. rw (at, s, t) (bystander {e = b .host (m .slot)} true (λ j a p. p) old
+      (λ p. let x = between (f .phase) t in absurd (omega arith))
+      (λ g h. sym (ap not (not-marked entry₁ i k (m .own (m .slot)) refl d)))
+      (λ g h o. absurd (apart refl o))))
+      (λ t. let never : 2 ≤ m .phase → m .phase ≤ 3 → ⊥ = λ g h. apart (is-between (f .phase) (omega arith) (omega arith)) t in
+      rw (at, s, t) (bystander {e = b .host (m .slot)} (f .overtaken) (λ j a p. p) old (old .fresh)
+      (λ g h. absurd (never g h)) (λ g h. absurd (never g h)))))
+      (λ s. let off : m .slot ≡ r₁ → ⊥ = λ x. eqb-false (f .slot) q s (sym sf ∙ x ∙ qr) in
+      rw (s, put-off (b .host) r₁ entry₁ (m .slot) off) old)
+
+  pub submit-keeps : Inv n (submitTaken b i) (refSubmit ref i)
+  unfolding submitTaken refSubmit submitted answered
+  submit-keeps = record {
+    P = inv .P;
+    chain = inv .chain;
+    top = λ k a p. rw (newest-kept k) (inv .top k a p);
+    newest = λ k j. rw (newest-kept k) (inv .newest k j);
+    slots = λ k. let s = inv .slots k in let h = newest-kept k in record {
+      storedMember = s .storedMember;
+      storedBelow = λ j. rw h (s .storedBelow j);
+      storedSame = rw h (s .storedSame);
+      storedValue = s .storedValue;
+    };
+    counts = λ k j. rw (newest-kept k) (put-all (λ j m. b .host k .newest .matrix k j ≡ countOn m k) (b .members) i
+        (answered m₁ (b .host r₁ .newest) (b .stored r₁)) (inv .counts k i ∙ rw e refl) (λ j d. inv .counts k j) j);
+    members = put-both
+        (λ k m f. MemberInv (inv .P) n k m f (put (b .host) r₁ entry₁ (m .slot)) (b .stored (m .slot)))
+        (b .members)
+        (λ k. cond (submittedOn (ref .members i .slot) (ref .members k)) (refOvertaken (ref .members k)) (ref .members k))
+        i (answered m₁ (b .host r₁ .newest) (b .stored r₁)) (refMoved (ref .members i) 2)
+        (rw (put-at (b .host) r₁ entry₁) submit-self) submit-other;
+  }
+
+-- A commit accepted: the slot has a new top row.
+
+module _ {n : ℕ} {b : Board} {ref : Reference} (inv : Inv n b ref) (i : ℕ) (e : b .members i .phase ≡ 3)
+    (won : marked (b .host (b .members i .slot)) i (b .members i .own (b .members i .slot)) ≡ true) where
+  abbrev m₃ : Member
+  m₃ = b .members i
+
+  abbrev r₃ : ℕ
+  r₃ = b .members i .slot
+
+  old₃ : MemberInv (inv .P) n i (b .members i) (ref .members i) (b .host (b .members i .slot)) (b .stored (b .members i .slot))
+  old₃ = inv .members i
+
+  run₃ : Running n i (b .members i .slot) (b .members i .operation)
+  run₃ = old₃ .running (omega arith)
+
+  abbrev sent : Rec
+  sent = sentRecord i (b .members i)
+
+  abbrev entry₃ : Entry
+  entry₃ = record { submitMember = 0; submitCount = 0; newest = sent }
+
+  abbrev row₃ : Row
+  row₃ = b .members i .first .matrix (b .members i .slot)
+
+  -- the winner is not overtaken, so its record extends what the host has
+  not-overtaken : ref .members i .overtaken ≡ false
+  not-overtaken = old₃ .mark (omega arith) (omega arith) ∙ ap not won
+
+  extension : Extends i (b .members i .slot) (b .members i .own (b .members i .slot)) (b .members i .first) (b .members i .second)
+      (b .host (b .members i .slot)) (b .stored (b .members i .slot))
+  extension = old₃ .extends e not-overtaken
+
+  abbrev Q₃ : Tops
+  Q₃ = Grown (inv .P) (b .members i .slot) (b .members i .first .matrix (b .members i .slot))
+
+  all-tops : (j : ℕ) → Q₃ j (b .members i .first .matrix j)
+  all-tops j = on (eqb j (b .members i .slot))
+      (λ p. let d : j ≡ b .members i .slot = eqb-true j (b .members i .slot) p in isNew d (ap (b .members i .first .matrix) d))
+      (λ p. was (old₃ .committed e .otherTops j (eqb-false j (b .members i .slot) p)))
+
+  new-top : (k : ℕ) (a : Row) → Q₃ k a → a ≼ put (b .host) r₃ entry₃ k .newest .matrix k
+  unfolding sentRecord
+  new-top k a (was p) = on (eqb k r₃)
+      (λ q. let d : k ≡ r₃ = eqb-true k r₃ q in
+      let h : a ≼ b .host r₃ .newest .matrix r₃ = rw d at (inv .top k a p) in
+      rw (d, put-at (b .host) r₃ entry₃) (≼-trans h (extension .above r₃)))
+      (λ q. rw (put-off (b .host) r₃ entry₃ k (eqb-false k r₃ q)) (inv .top k a p))
+  new-top k a (isNew d q) = rw (d, put-at (b .host) r₃ entry₃, q) (≼-refl _)
+
+  old-below : (k : ℕ) (a c : Row) → inv .P k a → k ≡ r₃ → c ≡ row₃ → a ≼ c
+  old-below k a c p d q =
+      let h : a ≼ b .host r₃ .newest .matrix r₃ = rw d at (inv .top k a p) in rw q (≼-trans h (extension .above r₃))
+
+  new-chain : (k : ℕ) (a c : Row) → Q₃ k a → Q₃ k c → Ordered a c
+  new-chain k a c (was p) (was q) = inv .chain k a c p q
+  new-chain k a c (was p) (isNew d q) = up (old-below k a c p d q)
+  new-chain k a c (isNew d q) (was p) = down (old-below k c a p d q)
+  new-chain k a c (isNew d p) (isNew g q) = up (rw (p, q) (≼-refl _))
+
+  new-newest : (k j : ℕ) → Q₃ j (put (b .host) r₃ entry₃ k .newest .matrix j)
+  unfolding sentRecord
+  new-newest k j = put-all (λ k x. Q₃ j (x .newest .matrix j)) (b .host) r₃ entry₃ (all-tops j) (λ k d. was (inv .newest k j)) k
+
+  new-counts : (k j : ℕ) → put (b .host) r₃ entry₃ k .newest .matrix k j ≡ countOn (put (b .members) i (judged m₃ true) j) k
+  unfolding sentRecord judged
+  new-counts k j = on (eqb k r₃)
+      (λ p. let d : k ≡ r₃ = eqb-true k r₃ p in
+      rw (d, put-at (b .host) r₃ entry₃, extension .row)
+      (put-both (λ j x m. x ≡ countOn m r₃) (b .host r₃ .newest .matrix r₃) (b .members) i (m₃ .own r₃) (judged m₃ true)
+      (rw (eq-eqb r₃ r₃ refl)) (λ j g. inv .counts r₃ j) j))
+      (λ p. let d : k ≡ r₃ → ⊥ = eqb-false k r₃ p in
+      rw (put-off (b .host) r₃ entry₃ k d)
+      (put-all (λ j m. b .host k .newest .matrix k j ≡ countOn m k) (b .members) i (judged m₃ true)
+      (inv .counts k i ∙ rw (e, ne-eqb r₃ k (λ q. d (sym q)))) (λ j g. inv .counts k j) j))
+
+  accept-self : (v : Value) → ref .values r₃ ≡ v → (e′ : Entry) (s′ : Rec)
+      → MemberInv Q₃ n i (judged m₃ true) (refAccepted (ref .members i) v) e′ s′
+  unfolding judged refAccepted
+  accept-self v h e′ s′ = record {
+    phase = refl;
+    crashed = old₃ .crashed;
+    own = old₃ .own;
+    slot = old₃ .slot;
+    operation = old₃ .operation;
+    value = old₃ .value;
+    fine = omega arith;
+    order = old₃ .order;
+    knownTops = λ j. was (old₃ .knownTops j);
+    running = λ g. run₃;
+    fresh = λ p. absurd (omega arith);
+    mark = λ g p. absurd (omega arith);
+    replied = λ p. absurd (omega arith);
+    current = λ p. absurd (omega arith);
+    committed = λ p. absurd (omega arith);
+    extends = λ p. absurd (omega arith);
+    accepted = λ p. record {
+      allTops = all-tops;
+      readNoted = λ q. ap (λ c. c .value) (extension .isStored) ∙ inv .slots r₃ .storedValue ∙ h;
+    };
+  }
+
+  -- whoever else is on the slot was overtaken by the winner
+  accept-other : (s : Rec) (k : ℕ) → (k ≡ i → ⊥)
+      → MemberInv Q₃ n k (b .members k) (ref .members k) (put (b .host) r₃ entry₃ (b .members k .slot)) (put (b .stored) r₃ s (b .members k .slot))
+  accept-other s k d =
+      let old = inv .members k in
+      let f = ref .members k in
+      let m = b .members k in
+      on (eqb (m .slot) r₃)
+      (λ p.
+      let at : m .slot ≡ r₃ = eqb-true (m .slot) r₃ p in
+      let h : put (b .host) r₃ entry₃ (m .slot) ≡ entry₃ = ap (put (b .host) r₃ entry₃) at ∙ put-at (b .host) r₃ entry₃ in
+      let mine : b .host (m .slot) .submitMember ≡ i = ap (λ x. b .host x .submitMember) at ∙ eqb-true (b .host r₃ .submitMember) i
+      (first (eqb (b .host r₃ .submitMember) i) (eqb (b .host r₃ .submitCount) (m₃ .own r₃)) won) in
+      let lost : 2 ≤ m .phase → m .phase ≤ 3 → f .overtaken ≡ true =
+      λ x y. old .mark x y ∙ ap not (not-marked (b .host (m .slot)) i k (m .own (m .slot)) mine d) in
+      rw h (bystander {e = b .host (m .slot)} (f .overtaken) (λ j a q. was q) old (old .fresh)
+      (λ x y. lost x y ∙ sym (ap not (not-marked entry₃ 0 k (m .own (m .slot)) refl
+      (λ z. let g = inside-low n k (old .running (omega arith) .member) in omega arith))))
+      (λ x y o. absurd (apart (lost x y) o))))
+      (λ p.
+      let off : m .slot ≡ r₃ → ⊥ = eqb-false (m .slot) r₃ p in
+      rw (put-off (b .host) r₃ entry₃ (m .slot) off, put-off (b .stored) r₃ s (m .slot) off)
+      (bystander {e = b .host (m .slot)} (f .overtaken) (λ j a q. was q) old (old .fresh) (old .mark) (λ x y o. (o, refl, refl))))
+
+  -- the slot's records and value, after a write and after a read
+  slot-written : m₃ .operation ≡ write → SlotInv n r₃ entry₃ sent (ref .members i .value)
+  unfolding sentRecord
+  slot-written w = record {
+    storedMember = λ p. sym (run₃ .writes w);
+    storedBelow = λ j. ≼-refl (m₃ .first .matrix j);
+    storedSame = refl;
+    storedValue = old₃ .committed e .ownValue ∙ old₃ .value w;
+  }
+
+  slot-read : (m₃ .operation ≡ write → ⊥) → SlotInv n r₃ entry₃ (b .stored r₃) (ref .values r₃)
+  unfolding sentRecord
+  slot-read w =
+      let s = inv .slots r₃ in
+      record {
+        storedMember = s .storedMember;
+        storedBelow = λ j. ≼-trans (s .storedBelow j) (extension .above j);
+        storedSame = s .storedSame ∙ sym (put-off (b .host r₃ .newest .matrix r₃) i (m₃ .own r₃) r₃ (run₃ .reads w))
+            ∙ sym (ap (λ x. x r₃) (extension .row));
+        storedValue = s .storedValue;
+      }
+
+  -- off the slot nothing changes
+  slot-off : (s : Rec) (v : Value) (k : ℕ) → (k ≡ r₃ → ⊥)
+      → SlotInv n k (put (b .host) r₃ entry₃ k) (put (b .stored) r₃ s k) (put (ref .values) r₃ v k)
+  slot-off s v k d = rw (put-off (b .host) r₃ entry₃ k d, put-off (b .stored) r₃ s k d, put-off (ref .values) r₃ v k d) (inv .slots k)
+
+  new-slots : (s : Rec) (v : Value) → SlotInv n r₃ entry₃ s v
+      → (k : ℕ) → SlotInv n k (put (b .host) r₃ entry₃ k) (put (b .stored) r₃ s k) (put (ref .values) r₃ v k)
+  new-slots s v h k = on (eqb k r₃)
+      (λ p. let d : k ≡ r₃ = eqb-true k r₃ p in rw (d, put-at (b .host) r₃ entry₃, put-at (b .stored) r₃ s, put-at (ref .values) r₃ v) h)
+      (λ p. slot-off s v k (eqb-false k r₃ p))
+
+  -- all of it, for whatever record the slot then has, and whatever values the reference
+  accepted-keeps : (s : Rec) (values : ℕ → Value) (h : List Operation)
+      → ((k : ℕ) → SlotInv n k (put (b .host) r₃ entry₃ k) (put (b .stored) r₃ s k) (values k))
+      → Inv n (record { members = put (b .members) i (judged m₃ true); host = put (b .host) r₃ entry₃; stored = put (b .stored) r₃ s })
+      (record { values = values; members = put (ref .members) i (refAccepted (ref .members i) (ref .values r₃)); history = h })
+  unfolding judged
+  accepted-keeps s values h slots = record {
+    P = Q₃;
+    chain = new-chain;
+    top = new-top;
+    newest = new-newest;
+    slots = slots;
+    counts = new-counts;
+    members = put-both
+        (λ k m f. MemberInv Q₃ n k m f (put (b .host) r₃ entry₃ (m .slot)) (put (b .stored) r₃ s (m .slot)))
+        (b .members) (ref .members) i (judged m₃ true) (refAccepted (ref .members i) (ref .values r₃))
+        (accept-self (ref .values r₃) refl _ _) (accept-other s);
+  }
+
+  -- the reference's slot and type are the member's
+  ref-accept : (written : Bool) → eqb (m₃ .operation) write ≡ written
+      → refAccept ref i ≡ record {
+        values = cond written (put (ref .values) r₃ (ref .members i .value)) (ref .values);
+        members = put (ref .members) i (refAccepted (ref .members i) (ref .values r₃));
+        history = operationOf i (ref .members i) ∷ ref .history;
+      }
+  unfolding refAccept
+  ref-accept written p =
+      let slot : ref .members i .slot ≡ r₃ = sym (old₃ .slot) in
+      let op : eqb (ref .members i .operation) write ≡ written = ap (λ t. eqb t write) (sym (old₃ .operation)) ∙ p in
+      λ t. record {
+        values = cond (op t) (put (ref .values) (slot t) (ref .members i .value)) (ref .values);
+        members = put (ref .members) i (refAccepted (ref .members i) (ref .values (slot t)));
+        history = operationOf i (ref .members i) ∷ ref .history;
+      }
+
+  pub accept-keeps : (kind : Kind) → Inv n (commitTaken kind b i) (refAccept ref i)
+  unfolding commitTaken wins entryAfter storedAfter becomesStored sentRecord
+  accept-keeps kind = rw won (on (eqb (m₃ .operation) write)
+      (λ p. rw (p, ref-accept true p) (accepted-keeps sent (put (ref .values) r₃ (ref .members i .value)) history
+      (new-slots sent (ref .members i .value) (slot-written (eqb-true (m₃ .operation) write p)))))
+      (λ p. rw (p, ref-accept false p) (accepted-keeps (b .stored r₃) (ref .values) history
+      (λ k. rw (put-same (ref .values) r₃) at (new-slots (b .stored r₃) (ref .values r₃) (slot-read (eqb-false (m₃ .operation) write p)) k)))))
+    where
+      history : List Operation
+      history = operationOf i (ref .members i) ∷ ref .history

@@ -1,0 +1,314 @@
+-- Steps that change one member and leave the host as it is: begin, the reply's checks, the outcome, a crash.
+use Prim.Native.Nat.{ℕ, _+_, _≤_, _<_}
+use native.Mathlib.Nat.{le-refl}
+use native.Mathlib.Omega.{arith}
+use mathlib.Core.Path.{_≡_, refl, sym, ap, _∙_, subst}
+use mathlib.Core.Bool.{Bool, true, false, cond, not, _&&_, _||_}
+use mathlib.Core.Logic.{_⊎_, inl, inr, ⊎-elim}
+use lib.Dec.{eqb, leb}
+use borrow.Author.Tests.{eqb-true, eqb-false, eq-eqb, ne-eqb, le-leb, not-true, not-false}
+use Rattle.lists.specs.Functions.{put, inside, each}
+use Rattle.lists.proofs.Functions.{on, put-at, put-off, put-all, put-both, each-all}
+use Rattle.model.specs.Rows.{Row, Matrix, larger, comparable}
+use Rattle.model.specs.Records.{Value, Rec, read, write}
+use Rattle.model.specs.Kinds.{Kind, barred}
+use Rattle.model.specs.Member
+use Rattle.model.specs.Member.{Member, begun, replied, passed, ownRecord, joined, haltNumber, completed, dropped, crashedOf, judged, rested}
+use Rattle.model.specs.Member.{check21, check22, check23, check24, check25, check26, check27}
+use Rattle.model.specs.Host.{Entry}
+use Rattle.model.specs.Board.{Board, withMember, boardBegun, replyTaken, outcomeTaken, boardCrashed}
+use Rattle.model.specs.Reference.{RefMember, Reference, refBegun, refMoved, refMarked, refAbort, refEnded, refWith}
+use Rattle.model.proofs.Rows.{larger-either}
+use Rattle.model.proofs.Order.{_≼_, Ordered, ≼-refl, ≼-raised, ≼-matrixBelow, ordered-comparable, larger-above}
+use Rattle.model.proofs.Answers.{BeginTaken}
+use Rattle.model.proofs.Invariant.{Tops, countOn, marked, Running, Replied, Current, Committed, Extends, Accepted, MemberInv, Inv}
+
+-- One member touched, with the counts that the tops have for it kept.
+pub touched : {n : ℕ} {b : Board} {ref : Reference} (inv : Inv n b ref) (i : ℕ) (m : Member) (f : RefMember)
+    → MemberInv (inv .P) n i m f (b .host (m .slot)) (b .stored (m .slot))
+    → ((k : ℕ) → countOn m k ≡ countOn (b .members i) k)
+    → Inv n (withMember b i m) (refWith ref i f)
+unfolding withMember
+touched {n} {b} {ref} inv i m f h c = record {
+  P = inv .P;
+  chain = inv .chain;
+  top = inv .top;
+  newest = inv .newest;
+  slots = inv .slots;
+  counts = λ k. put-all (λ j m. b .host k .newest .matrix k j ≡ countOn m k) (b .members) i m
+      (inv .counts k i ∙ sym (c k)) (λ j d. inv .counts k j);
+  members = put-both (λ k m f. MemberInv (inv .P) n k m f (b .host (m .slot)) (b .stored (m .slot))) (b .members) (ref .members) i m f
+      h (λ k d. inv .members k);
+}
+
+-- Begin.
+
+-- a slot and type that number 7 lets through
+allowed-writes : (kind : Kind) (i r t : ℕ) → barred kind i r t ≡ false → t ≡ write → r ≡ i
+unfolding barred
+allowed-writes kind i r t h e = sym (eqb-true i r (not-false _ (rw (eq-eqb t write e) at h)))
+
+allowed-reads : (kind : Kind) (i r t : ℕ) → barred kind i r t ≡ false → (t ≡ write → ⊥) → r ≡ i → ⊥
+unfolding barred
+allowed-reads kind i r t h d e = eqb-false i r (rw (ne-eqb t write d) at h) (sym e)
+
+pub begin-keeps : {kind : Kind} {n : ℕ} {b : Board} {ref : Reference} (inv : Inv n b ref) (i r t : ℕ) (v : Value)
+    → BeginTaken kind n (b .members i .phase) (b .members i .crashed) (b .members i .own r) i r t
+    → Inv n (boardBegun b i r t v) (refWith ref i (refBegun (ref .members i) r t v))
+unfolding boardBegun begun refBegun
+begin-keeps {kind} {n} {b} {ref} inv i r t v taken =
+    touched inv i (begun m r t v) (refBegun (ref .members i) r t v)
+    (record {
+      phase = refl;
+      crashed = old .crashed;
+      own = λ k. ap (λ f. f k) (ap (λ f. put f r (m .own r + 1)) (own-same) ∙ ap (λ c. put (ref .members i .begins) r (c + 1)) (old .own r));
+      slot = refl;
+      operation = refl;
+      value = λ e. rw (eq-eqb t write e);
+      fine = omega arith;
+      order = put-all (λ k c. m .accepted k ≤ c) (m .own) r (m .own r + 1) (let h = old .order r in omega arith) (λ k d. old .order k);
+      knownTops = old .knownTops;
+      running = λ h. record {
+        member = taken .member;
+        slotIn = taken .slot;
+        writes = allowed-writes kind i r t (taken .allowed);
+        reads = allowed-reads kind i r t (taken .allowed);
+      };
+      fresh = λ e. refl;
+      mark = λ g h. absurd (omega arith);
+      replied = λ e. absurd (omega arith);
+      current = λ e. absurd (omega arith);
+      committed = λ e. absurd (omega arith);
+      extends = λ e. absurd (omega arith);
+      accepted = λ e. absurd (omega arith);
+    })
+    (λ k. let e = taken .isIdle in rw e refl)
+  where
+    m : Member
+    m = b .members i
+
+    old : MemberInv (inv .P) n i (b .members i) (ref .members i) (b .host (b .members i .slot)) (b .stored (b .members i .slot))
+    old = inv .members i
+
+    own-same : b .members i .own ≡ ref .members i .begins
+    own-same = λ j k. old .own k j
+
+-- The reply's checks pass: a reply that was the host's honest one passes, however long ago it was sent.
+
+all-pass : (n i : ℕ) (m : Member) (newest stored : Rec)
+    → check22 n i (m .slot) (m .known) (newest .matrix) ≡ true
+    → check23 i (m .slot) (m .accepted) (newest .matrix) ≡ true
+    → check24 (m .slot) stored ≡ true
+    → check25 n (m .slot) (stored .matrix) (newest .matrix) ≡ true
+    → check26 n (m .slot) (m .known) (newest .matrix) ≡ true
+    → check27 n i (m .slot) (m .accepted) (newest .matrix) ≡ true
+    → haltNumber n i m newest stored 3 ≡ 0
+unfolding haltNumber check21
+all-pass n i m newest stored c22 c23 c24 c25 c26 c27 = rw (c22, c23, c24, c25, c26, c27)
+
+either : (a : Bool) {b : Bool} → b ≡ true → (a || b) ≡ true
+either true h = refl
+either false h = h
+
+pub checks-pass : {n : ℕ} {b : Board} {ref : Reference} (inv : Inv n b ref) (i : ℕ) → b .members i .phase ≡ 2
+    → haltNumber n i (b .members i) (b .members i .first) (b .members i .second) 3 ≡ 0
+unfolding check22 check23 check24 check25 check26 check27
+checks-pass {n} {b} {ref} inv i e =
+    all-pass n i m (m .first) (m .second)
+    (each-all n (λ k. eqb k i || leb (m .known r k) (m .first .matrix r k))
+    (λ k p q. either (eqb k i) (le-leb (m .known r k) (m .first .matrix r k) (reply .knownBelow k))))
+    (eq-eqb (m .first .matrix r i) (m .accepted r) (reply .ownEntry))
+    (eq-eqb (m .second .member) r (reply .secondMember))
+    (rw (
+      ≼-matrixBelow n (m .second .matrix) (m .first .matrix) (reply .secondBelow),
+      eq-eqb (m .second .matrix r r) (m .first .matrix r r) (reply .secondSame),
+    ))
+    (each-all n (λ j. eqb j r || comparable n (m .known j) (m .first .matrix j))
+    (λ j p q. either (eqb j r)
+    (ordered-comparable n (m .known j) (m .first .matrix j) (inv .chain j (m .known j) (m .first .matrix j) (old .knownTops j) (reply .firstTops j)))))
+    (each-all n (λ j. eqb j r || leb (m .first .matrix j i) (m .accepted j))
+    (λ j p q. either (eqb j r) (le-leb (m .first .matrix j i) (m .accepted j)
+    (let h : m .first .matrix j i ≤ b .host j .newest .matrix j i = inv .top j (m .first .matrix j) (reply .firstTops j) i in
+    let c : b .host j .newest .matrix j i ≡ m .accepted j = inv .counts j i ∙ not-four j in omega arith))))
+  where
+    m : Member
+    m = b .members i
+
+    r : ℕ
+    r = b .members i .slot
+
+    old : MemberInv (inv .P) n i (b .members i) (ref .members i) (b .host (b .members i .slot)) (b .stored (b .members i .slot))
+    old = inv .members i
+
+    reply : Replied (inv .P) i (m .slot) (m .accepted) (m .known) (m .first) (m .second)
+    reply = old .replied e
+
+    not-four : (k : ℕ) → countOn (b .members i) k ≡ b .members i .accepted k
+    not-four k = rw e
+
+pub reply-keeps : {n : ℕ} {b : Board} {ref : Reference} (inv : Inv n b ref) (i : ℕ) → b .members i .phase ≡ 2
+    → Inv n (replyTaken n b i) (refWith ref i (refMoved (ref .members i) 3))
+unfolding replyTaken replied passed ownRecord joined refMoved
+reply-keeps {n} {b} {ref} inv i e = rw (checks-pass inv i e)
+    (touched inv i (passed n i m (m .first) (m .second)) (refMoved (ref .members i) 3)
+    (record {
+      phase = refl;
+      crashed = old .crashed;
+      own = old .own;
+      slot = old .slot;
+      operation = old .operation;
+      value = old .value;
+      fine = omega arith;
+      order = old .order;
+      knownTops = old .knownTops;
+      running = λ h. old .running (omega arith);
+      fresh = λ e. absurd (omega arith);
+      mark = λ g h. old .mark (omega arith) (omega arith);
+      replied = λ e. absurd (omega arith);
+      current = λ e. absurd (omega arith);
+      committed = λ _. record { otherTops = others; ownValue = refl };
+      extends = λ _ o. record {
+        above = λ j. rw (← old .current e o .isNewest) (raises j);
+        row = rw (eq-eqb r r refl) (ap (λ c. put (c .matrix r) i (m .own r)) (old .current e o .isNewest));
+        isStored = old .current e o .isStored;
+      };
+      accepted = λ e. absurd (omega arith);
+    })
+    (λ k. rw e refl))
+  where
+    m : Member
+    m = b .members i
+
+    r : ℕ
+    r = b .members i .slot
+
+    old : MemberInv (inv .P) n i (b .members i) (ref .members i) (b .host (b .members i .slot)) (b .stored (b .members i .slot))
+    old = inv .members i
+
+    reply : Replied (inv .P) i (m .slot) (m .accepted) (m .known) (m .first) (m .second)
+    reply = old .replied e
+
+    new : Matrix
+    new = joined n i r (m .own r) (m .known) (m .first .matrix)
+
+    others : (j : ℕ) → (j ≡ r → ⊥) → inv .P j (new j)
+    others j d = rw (ne-eqb j r d) (⊎-elim
+        (λ p. rw p (old .knownTops j)) (λ p. rw p (reply .firstTops j)) (larger-either n (m .known j) (m .first .matrix j)))
+
+    raises : (j : ℕ) → m .first .matrix j ≼ new j
+    raises j = on (eqb j r)
+        (λ p. let d : j ≡ r = eqb-true j r p in rw d (rw (eq-eqb r r refl) (≼-raised (m .first .matrix r) i (m .own r)
+        (let h = reply .ownEntry in let g = old .order r in omega arith))))
+        (λ p. rw p (larger-above n (m .known j) (m .first .matrix j)
+        (inv .chain j (m .known j) (m .first .matrix j) (old .knownTops j) (reply .firstTops j))))
+
+-- The verdict aborted, and the outcome taken in phases 4 and 5.
+
+pub abort-keeps : {n : ℕ} {b : Board} {ref : Reference} (inv : Inv n b ref) (i : ℕ) → b .members i .phase ≡ 3
+    → Inv n (withMember b i (judged (b .members i) false)) (refAbort ref i)
+unfolding judged refMoved refAbort
+abort-keeps {n} {b} {ref} inv i e =
+    let m = b .members i in
+    let old = inv .members i in
+    touched inv i (judged m false) (refMoved (ref .members i) 5)
+    (record {
+      phase = refl;
+      crashed = old .crashed;
+      own = old .own;
+      slot = old .slot;
+      operation = old .operation;
+      value = old .value;
+      fine = omega arith;
+      order = old .order;
+      knownTops = old .knownTops;
+      running = λ h. old .running (omega arith);
+      fresh = λ p. absurd (omega arith);
+      mark = λ g h. absurd (omega arith);
+      replied = λ p. absurd (omega arith);
+      current = λ p. absurd (omega arith);
+      committed = λ p. absurd (omega arith);
+      extends = λ p. absurd (omega arith);
+      accepted = λ p. absurd (omega arith);
+    })
+    (λ k. rw e refl)
+
+-- A member at rest, whatever it took over: it has no operation that the host could hold against it.
+at-rest : (P : Tops) (n i : ℕ) (m : Member) (f : RefMember) (accepted : ℕ → ℕ) (last : Value) (known : Matrix) (e : Entry) (stored : Rec)
+    → m .crashed ≡ f .crashed → ((r : ℕ) → m .own r ≡ f .begins r) → ((r : ℕ) → accepted r ≤ m .own r) → ((j : ℕ) → P j (known j))
+    → MemberInv P n i (rested m accepted last known) (refEnded f) e stored
+unfolding refEnded
+at-rest P n i m f accepted last known e stored up own order tops = record {
+  phase = refl;
+  crashed = up;
+  own = own;
+  slot = refl;
+  operation = refl;
+  value = λ p. absurd (omega arith);
+  fine = omega arith;
+  order = order;
+  knownTops = tops;
+  running = λ h. absurd (omega arith);
+  fresh = λ p. absurd (omega arith);
+  mark = λ g h. absurd (omega arith);
+  replied = λ p. absurd (omega arith);
+  current = λ p. absurd (omega arith);
+  committed = λ p. absurd (omega arith);
+  extends = λ p. absurd (omega arith);
+  accepted = λ p. absurd (omega arith);
+}
+
+pub completed-keeps : {n : ℕ} {b : Board} {ref : Reference} (inv : Inv n b ref) (i : ℕ) → b .members i .phase ≡ 4
+    → Inv n (withMember b i (completed (b .members i))) (refWith ref i (refEnded (ref .members i)))
+unfolding completed
+completed-keeps {n} {b} {ref} inv i e =
+    let m = b .members i in
+    let old = inv .members i in
+    touched inv i (completed m) (refEnded (ref .members i))
+    (at-rest (inv .P) n i m (ref .members i) _ _ _ _ _ (old .crashed) (old .own)
+    (put-all (λ k c. c ≤ m .own k) (m .accepted) (m .slot) (m .own (m .slot)) (le-refl (m .own (m .slot))) (λ k d. old .order k))
+    (old .accepted e .allTops))
+    (λ k. on (eqb k (m .slot))
+    (λ p. let d : k ≡ m .slot = eqb-true k (m .slot) p in
+    rw (d, put-at (m .accepted) (m .slot) (m .own (m .slot)), e, eq-eqb (m .slot) (m .slot) refl))
+    (λ p. let d : k ≡ m .slot → ⊥ = eqb-false k (m .slot) p in
+    rw (put-off (m .accepted) (m .slot) (m .own (m .slot)) k d, e, ne-eqb (m .slot) k (λ q. d (sym q)))))
+
+pub dropped-keeps : {n : ℕ} {b : Board} {ref : Reference} (inv : Inv n b ref) (i : ℕ) → b .members i .phase ≡ 5
+    → Inv n (withMember b i (dropped (b .members i))) (refWith ref i (refEnded (ref .members i)))
+unfolding dropped
+dropped-keeps {n} {b} {ref} inv i e =
+    let m = b .members i in
+    let old = inv .members i in
+    touched inv i (dropped m) (refEnded (ref .members i))
+    (at-rest (inv .P) n i m (ref .members i) _ _ _ _ _ (old .crashed) (old .own) (old .order) (old .knownTops))
+    (λ k. rw e refl)
+
+-- A crash.
+
+pub crash-keeps : {n : ℕ} {b : Board} {ref : Reference} (inv : Inv n b ref) (i : ℕ)
+    → Inv n (boardCrashed b i) (refWith ref i (refMarked (ref .members i)))
+unfolding boardCrashed crashedOf refMarked
+crash-keeps {n} {b} {ref} inv i =
+    let m = b .members i in
+    let old = inv .members i in
+    touched inv i (crashedOf m) (refMarked (ref .members i))
+    (record {
+      phase = old .phase;
+      crashed = refl;
+      own = old .own;
+      slot = old .slot;
+      operation = old .operation;
+      value = old .value;
+      fine = old .fine;
+      order = old .order;
+      knownTops = old .knownTops;
+      running = old .running;
+      fresh = old .fresh;
+      mark = old .mark;
+      replied = old .replied;
+      current = old .current;
+      committed = old .committed;
+      extends = old .extends;
+      accepted = old .accepted;
+    })
+    (λ k. refl)

@@ -1,0 +1,7 @@
+pub mod Rows
+pub mod Order
+pub mod Answers
+pub mod Invariant
+pub mod InvariantMember
+pub mod InvariantHost
+pub mod AsReference
