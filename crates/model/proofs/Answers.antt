@@ -4,7 +4,7 @@ use mathlib.Core.Path.{_≡_, refl, sym, ap, _∙_}
 use mathlib.Core.Bool.{Bool, true, false, cond, not, _&&_, _||_}
 use native.Mathlib.Omega.{arith}
 use lib.Dec.{eqb, leb, lit<}
-use borrow.Author.Tests.{eqb-true, eqb-false, leb-false, not-true, not-false, eq-eqb}
+use borrow.Author.Tests.{eqb-true, eqb-false, leb-false, lt-leb}
 use Rattle.lists.specs.Functions.{inside}
 use Rattle.lists.proofs.Functions.{on, apart}
 use Rattle.model.specs.Records.{read, write}
@@ -84,3 +84,10 @@ by-phase p z h b1 b2 b3 b4 b5 =
     on (eqb p 3) (λ e. b3 (eqb-true p 3 e)) (λ e3. let d3 = eqb-false p 3 e3 in
     on (eqb p 4) (λ e. b4 (eqb-true p 4 e)) (λ e4. let d4 = eqb-false p 4 e4 in
     b5 (omega arith)))))
+
+-- and a call for which none of the grounds holds is answered 0
+pub taken-begin : (kind : Kind) (n phase crashed count i r t : ℕ) → BeginTaken kind n phase crashed count i r t
+    → beginAnswer kind n phase crashed count i r t ≡ 0
+unfolding beginAnswer
+taken-begin kind n phase crashed count i r t b =
+  rw (b .member, b .slot, b .operation, b .allowed, b .isIdle, b .isUp, lt-leb (kind .limit) count (b .room))

@@ -1,0 +1,67 @@
+-- Every case of the table holds: the test of each is computed, and a test that passes means equal lines.
+-- Assumes nothing.
+use Prim.Native.Nat.{ℕ, zero, suc, _<_}
+use mathlib.Core.Path.{_≡_, refl}
+use mathlib.Core.Bool.{Bool, true, false≢true}
+use mathlib.Core.List.{List, [], _∷_}
+use native.Mathlib.Omega.{arith}
+use lib.Dec.{eqb}
+use lib.ListN.{length, getD}
+use borrow.Author.Tests.{eqb-true}
+use Rattle.lists.specs.Functions.{put, within, inside, each}
+use Rattle.lists.specs.Parts.{tabulate}
+use Rattle.lists.proofs.Functions.{first, second}
+use Rattle.model.specs.Rows.{zeroRow, zeroMatrix, below, matrixBelow, comparable, larger}
+use Rattle.model.specs.Records.{zeroValue, opening}
+use Rattle.model.specs.Kinds.{isOperation, barred, becomesStored}
+use Rattle.model.specs.Numbers.{beginAnswer, deliverAnswer, crashAnswer}
+use Rattle.model.specs.Member.{idle, begun, answered, check21, check22, check23, check24, check25, check26, check27, haltNumber, joined, ownRecord, passed, failed, replied, judged, completed, dropped, outcome, returnedBy, crashedOf}
+use Rattle.model.specs.Host.{submitted, wins, entryAfter, storedAfter}
+use Rattle.model.specs.Board.{openingEntry, opened, withMember, boardBegun, submitTaken, replyTaken, sentRecord, commitTaken, outcomeTaken, boardDelivered, boardReturned, boardCrashed}
+use Rattle.model.specs.Runs.{answerOf, done, doneReturns, after, seenAt, run}
+use Rattle.model.specs.Demand3.{Every}
+use Rattle.runs.specs.Case.{left, caller, lastWord, line, printed, rowsOf, recordLine, unless, failingOf, takingOf, found, every, alike, Case, Holds, holds}
+use Rattle.runs.specs.Cases.{cases, example}
+
+pub all-pass : every holds cases ≡ true
+unfolding put within inside each tabulate zeroRow zeroMatrix below matrixBelow comparable larger zeroValue opening isOperation
+    barred becomesStored beginAnswer deliverAnswer crashAnswer idle begun answered check21 check22 check23 check24 check25 check26
+    check27 haltNumber joined ownRecord passed failed replied judged completed dropped outcome returnedBy crashedOf submitted wins
+    entryAfter storedAfter openingEntry opened withMember boardBegun submitTaken replyTaken sentRecord commitTaken outcomeTaken
+    boardDelivered boardReturned boardCrashed answerOf done doneReturns after seenAt run left caller lastWord line printed rowsOf
+    recordLine unless failingOf takingOf found every alike holds
+all-pass = refl
+
+module _ {A : Type 0} where
+  alike-same : (same : A → A → Bool) → ((x y : A) → same x y ≡ true → x ≡ y) → (xs ys : List A) → alike same xs ys ≡ true → xs ≡ ys
+  unfolding alike
+  alike-same same h [] [] e = refl
+  alike-same same h [] (y ∷ ys) e = absurd (false≢true e)
+  alike-same same h (x ∷ xs) [] e = absurd (false≢true e)
+  alike-same same h (x ∷ xs) (y ∷ ys) e =
+      rw (h x y (first (same x y) (alike same xs ys) e), alike-same same h xs ys (second (same x y) (alike same xs ys) e))
+
+  -- what is tested of every element, from what the test means
+  every-of : (test : A → Bool) (P : A → Type 0) → ((x : A) → test x ≡ true → P x) → (xs : List A) → every test xs ≡ true → Every P xs
+  unfolding every
+  every-of test P h [] e = tt
+  every-of test P h (x ∷ xs) e =
+      (h x (first (test x) (every test xs) e), every-of test P h xs (second (test x) (every test xs) e))
+
+  every-at : (P : A → Type 0) (xs : List A) → Every P xs → (d : A) (k : ℕ) → k < length xs → P (getD xs k d)
+  every-at P [] h d k p = absurd (omega arith)
+  every-at P (x ∷ xs) h d zero p = h .0
+  every-at P (x ∷ xs) h d (suc k) p = every-at P xs (h .1) d k (omega arith)
+
+-- a case that passes its test holds
+passes : (c : Case) → holds c ≡ true → Holds c
+unfolding holds
+passes c = every-of (λ q. alike (alike eqb) (found c (q .question)) (q .lines)) (λ q. found c (q .question) ≡ q .lines)
+    (λ q. alike-same (alike eqb) (alike-same eqb eqb-true) (found c (q .question)) (q .lines)) (c .claims)
+
+-- Every case of the table holds, and so each row of it.
+pub every-case : Every Holds cases
+every-case = every-of holds Holds passes cases all-pass
+
+pub case-at : (k : ℕ) → k < length cases → Holds (getD cases k example)
+case-at = every-at Holds cases every-case example

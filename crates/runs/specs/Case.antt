@@ -1,0 +1,156 @@
+-- The form of a worked case: a board, a list of calls, and what is found. Whatever a case asks is answered with lines of numbers, so
+-- that one comparison serves every question.
+use Prim.Native.Nat.{ℕ, zero, suc}
+use mathlib.Core.Path.{_≡_}
+use mathlib.Core.Bool.{Bool, true, false, cond, _&&_}
+use mathlib.Core.List.{List, [], _∷_, _++_}
+use mathlib.Core.Option.{Option, none, some}
+use lib.Dec.{eqb}
+use Rattle.lists.specs.Functions.{put}
+use Rattle.lists.specs.Parts.{listed}
+use Rattle.model.specs.Rows.{Matrix}
+use Rattle.model.specs.Records.{Value, Rec, read, write, zeroValue}
+use Rattle.model.specs.Kinds.{concur}
+use Rattle.model.specs.Member.{Member, check21, check22, check23, check24, check25, check26, check27, replied}
+use Rattle.model.specs.Board.{Board}
+use Rattle.model.specs.Runs.{Call, begin, deliver, crash, Seen, run, after}
+use Rattle.model.specs.Demand3.{Every}
+
+-- Scripts, as document 01's board program reads them.
+
+-- "V fills the sheet's last word, the other seven being zero"
+abbrev pub valued : ℕ → Value
+valued v = put zeroValue 8 v
+
+abbrev pub writes : ℕ → ℕ → Call
+writes i v = begin i i write (valued v)
+
+abbrev pub reads : ℕ → ℕ → Call
+reads i r = begin i r read zeroValue
+
+-- deliver, k times in a row
+abbrev pub delivers : ℕ → ℕ → List Call
+delivers i zero = []
+delivers i (suc k) = deliver i ∷ delivers i k
+
+-- a whole operation, with nothing in between: its begin and four delivers
+abbrev pub wholeWrite : ℕ → ℕ → List Call
+wholeWrite i v = writes i v ∷ delivers i 4
+
+abbrev pub wholeRead : ℕ → ℕ → List Call
+wholeRead i r = reads i r ∷ delivers i 4
+
+-- What can be asked of a case.
+pub data Question : Type 0 where
+  -- what the board program prints, a line for each call: the answer, the member's phase after it (none for answer 4), and the last word
+  -- of a value that was returned
+  output : Question
+  -- of the board that the calls leave: the matrix of a slot's newest record, a line for each of its rows
+  newest : ℕ → Question
+  -- a slot's newest and its stored record, a line for each: member, slot, type, count and the last word of the value
+  records : ℕ → Question
+  -- every member's phase, and every member's halt number
+  phases : Question
+  halts : Question
+  -- of the board at the start, where a member takes the reply in its two message records with a seals value: the numbers of all the
+  -- checks that fail, and the phase and halt number that the member then has
+  failing : ℕ → ℕ → Question
+  taking : ℕ → ℕ → Question
+
+-- a question and the lines that answer it
+pub record Claim : Type 0 where
+  pub question : Question
+  pub lines : List (List ℕ)
+
+infix 70 _is_
+abbrev pub _is_ : Question → List (List ℕ) → Claim
+question is lines = record { question = question; lines = lines }
+
+-- n, the board at the start, the calls, and what must be found
+pub record Case : Type 0 where
+  pub n : ℕ
+  pub start : Board
+  pub calls : List Call
+  pub claims : List Claim
+
+-- the board that a list of calls leaves
+unfoldable pub left : ℕ → Board → List Call → Board
+left n b [] = b
+left n b (call ∷ calls) = left n (after concur n b call) calls
+
+unfoldable pub caller : Call → ℕ
+caller (begin i r t v) = i
+caller (deliver i) = i
+caller (crash i) = i
+
+unfoldable pub lastWord : Option Value → List ℕ
+lastWord none = []
+lastWord (some v) = v 8 ∷ []
+
+unfoldable pub line : ℕ → Seen → List ℕ
+line i s = s .answer ∷ (cond (eqb (s .answer) 4) [] (s .phases i ∷ []) ++ lastWord (s .returned))
+
+unfoldable pub printed : List Call → List Seen → List (List ℕ)
+printed [] seen = []
+printed (call ∷ calls) [] = []
+printed (call ∷ calls) (s ∷ seen) = line (caller call) s ∷ printed calls seen
+
+-- the rows 1 to k of a matrix, at members 1 to n
+unfoldable pub rowsOf : ℕ → ℕ → Matrix → List (List ℕ)
+rowsOf n zero m = []
+rowsOf n (suc k) m = rowsOf n k m ++ (listed n (m (suc k)) ∷ [])
+
+unfoldable pub recordLine : Rec → List ℕ
+recordLine r = r .member ∷ r .slot ∷ r .operation ∷ r .count ∷ r .value 8 ∷ []
+
+-- one number more, where a check fails
+unfoldable pub unless : Bool → ℕ → List ℕ → List ℕ
+unless passes number more = cond passes more (number ∷ more)
+
+unfoldable pub failingOf : ℕ → ℕ → Member → ℕ → List ℕ
+failingOf n i m seals =
+    let sent = m .first .matrix in
+    unless (check21 seals) 21
+    (unless (check22 n i (m .slot) (m .known) sent) 22
+    (unless (check23 i (m .slot) (m .accepted) sent) 23
+    (unless (check24 (m .slot) (m .second)) 24
+    (unless (check25 n (m .slot) (m .second .matrix) sent) 25
+    (unless (check26 n (m .slot) (m .known) sent) 26
+    (unless (check27 n i (m .slot) (m .accepted) sent) 27
+    []))))))
+
+unfoldable pub takingOf : ℕ → ℕ → Member → ℕ → List ℕ
+takingOf n i m seals = let taken = replied n i m (m .first) (m .second) seals in taken .phase ∷ taken .halt ∷ []
+
+-- the answer to a question
+unfoldable pub found : Case → Question → List (List ℕ)
+found c output = printed (c .calls) (run concur (c .n) (c .start) (c .calls))
+found c (newest r) = rowsOf (c .n) (c .n) (left (c .n) (c .start) (c .calls) .host r .newest .matrix)
+found c (records r) =
+    let b = left (c .n) (c .start) (c .calls) in
+    recordLine (b .host r .newest) ∷ recordLine (b .stored r) ∷ []
+found c phases = listed (c .n) (λ i. left (c .n) (c .start) (c .calls) .members i .phase) ∷ []
+found c halts = listed (c .n) (λ i. left (c .n) (c .start) (c .calls) .members i .halt) ∷ []
+found c (failing i seals) = failingOf (c .n) i (c .start .members i) seals ∷ []
+found c (taking i seals) = takingOf (c .n) i (c .start .members i) seals ∷ []
+
+module _ {A : Type 0} where
+  -- does the test pass at every element
+  unfoldable pub every : (A → Bool) → List A → Bool
+  every test [] = true
+  every test (x ∷ xs) = test x && every test xs
+
+  -- are two lists of one length and alike, element by element
+  unfoldable pub alike : (A → A → Bool) → List A → List A → Bool
+  alike same [] [] = true
+  alike same [] (y ∷ ys) = false
+  alike same (x ∷ xs) [] = false
+  alike same (x ∷ xs) (y ∷ ys) = same x y && alike same xs ys
+
+-- A case holds where each of its questions is answered by the lines that it gives: as a statement, and as a test that is computed.
+
+abbrev pub Holds : Case → Type 0
+Holds c = Every (λ q. found c (q .question) ≡ q .lines) (c .claims)
+
+unfoldable pub holds : Case → Bool
+holds c = every (λ q. alike (alike eqb) (found c (q .question)) (q .lines)) (c .claims)

@@ -1,0 +1,337 @@
+-- The worked cases of document 01, "Boards to prove" and "Plausible and false", as rows of one table.
+use Prim.Native.Nat.{ℕ}
+use mathlib.Core.List.{List, [], _∷_, _++_}
+use Rattle.lists.specs.Functions.{put}
+use Rattle.model.specs.Rows.{Row, Matrix, zeroRow, zeroMatrix}
+use Rattle.model.specs.Records.{Rec, read, write, zeroValue, zeroRecord}
+use Rattle.model.specs.Member.{Member, begun, answered}
+use Rattle.model.specs.Board.{opened, withMember}
+use Rattle.model.specs.Runs.{Call, begin, deliver, crash}
+use Rattle.runs.specs.Case.{
+  writes,
+  reads,
+  delivers,
+  wholeWrite,
+  wholeRead,
+  output,
+  newest,
+  records,
+  phases,
+  halts,
+  failing,
+  taking,
+  _is_,
+  Case,
+}
+
+-- lines of two and of three numbers
+abbrev pub pair : ℕ → ℕ → List ℕ
+pair a b = a ∷ b ∷ []
+
+abbrev pub triple : ℕ → ℕ → ℕ → List ℕ
+triple a b c = a ∷ b ∷ c ∷ []
+
+-- what a whole operation prints where it is accepted: `ended` is its last line
+abbrev pub prints : List ℕ → List (List ℕ)
+prints ended = pair 0 1 ∷ pair 0 2 ∷ pair 0 3 ∷ pair 0 4 ∷ ended ∷ []
+
+-- The board program's example, all ten lines after `board 2`; and what stands in slot 1 after its steps 5 and 9.
+
+abbrev pub example : Case
+example = record {
+  n = 2;
+  start = opened 2;
+  calls = writes 1 77 ∷ delivers 1 4 ++ (reads 2 1 ∷ delivers 2 4);
+  claims =
+      output is (pair 0 1 ∷ pair 0 2 ∷ pair 0 3 ∷ pair 0 4 ∷ pair 0 0
+      ∷ pair 0 1 ∷ pair 0 2 ∷ pair 0 3 ∷ pair 0 4 ∷ triple 0 0 77 ∷ [])
+      ∷ [];
+}
+
+abbrev pub p2 : Case
+p2 = record {
+  n = 2;
+  start = opened 2;
+  calls = wholeWrite 1 77;
+  claims = newest 1 is (pair 1 0 ∷ pair 0 0 ∷ []) ∷ [];
+}
+
+abbrev pub p3 : Case
+p3 = record {
+  n = 2;
+  start = opened 2;
+  calls = wholeWrite 1 77 ++ (reads 2 1 ∷ delivers 2 3);
+  claims = newest 1 is (pair 1 1 ∷ pair 0 0 ∷ []) ∷ [];
+}
+
+-- Refused begins.
+
+abbrev pub p4 : Case
+p4 = record { n = 2; start = opened 2; calls = reads 1 1 ∷ []; claims = output is (pair 7 0 ∷ []) ∷ [] }
+
+abbrev pub p5 : Case
+p5 = record {
+  n = 2;
+  start = opened 2;
+  calls = writes 1 77 ∷ writes 1 78 ∷ [];
+  claims = output is (pair 0 1 ∷ pair 8 1 ∷ []) ∷ [];
+}
+
+-- every other number of begin, deliver and crash; the grounds of begin in their order
+abbrev pub refusals : Case
+refusals = record {
+  n = 2;
+  start = opened 2;
+  calls =
+      begin 3 3 3 zeroValue ∷ begin 0 1 read zeroValue ∷ begin 1 3 3 zeroValue ∷ begin 1 0 read zeroValue ∷ begin 1 1 3 zeroValue
+      ∷ begin 1 2 write zeroValue
+      ∷ deliver 3 ∷ deliver 1
+      ∷ crash 3 ∷ crash 1 ∷ crash 1 ∷ reads 1 1 ∷ reads 1 2 ∷ [];
+  claims =
+      output is ((4 ∷ []) ∷ (4 ∷ []) ∷ pair 5 0 ∷ pair 5 0 ∷ pair 6 0 ∷ pair 7 0
+      ∷ (4 ∷ []) ∷ pair 10 0
+      ∷ (4 ∷ []) ∷ pair 0 0 ∷ pair 11 0 ∷ pair 7 0 ∷ pair 8 0 ∷ [])
+      ∷ [];
+}
+
+-- Two operations on one slot at once.
+
+-- members 1 and 2 submit reads of slot 3, 1 then 2, and each takes its first message
+abbrev pub contended : List Call
+contended = reads 1 3 ∷ reads 2 3 ∷ deliver 1 ∷ deliver 2 ∷ deliver 1 ∷ deliver 2 ∷ []
+
+abbrev pub p6 : Case
+p6 = record {
+  n = 3;
+  start = opened 3;
+  calls = contended ++ (deliver 1 ∷ deliver 2 ∷ []);
+  claims = phases is (triple 5 4 0 ∷ []) ∷ newest 3 is (triple 0 0 0 ∷ triple 0 0 0 ∷ triple 0 1 0 ∷ []) ∷ [];
+}
+
+-- both complete, 2 writes slot 2, 1 reads slot 2
+abbrev pub p7 : Case
+p7 = record {
+  n = 3;
+  start = opened 3;
+  calls = p6 .calls ++ (deliver 1 ∷ deliver 2 ∷ []) ++ wholeWrite 2 5 ++ wholeRead 1 2;
+  claims =
+      newest 2 is (triple 0 0 0 ∷ triple 1 1 0 ∷ triple 0 1 0 ∷ [])
+      ∷ halts is (triple 0 0 0 ∷ [])
+      ∷ phases is (triple 0 0 0 ∷ [])
+      ∷ [];
+}
+
+-- then 1 reads slot 3
+abbrev pub p8 : Case
+p8 = record {
+  n = 3;
+  start = opened 3;
+  calls = p7 .calls ++ wholeRead 1 3;
+  claims =
+      newest 3 is (triple 0 0 0 ∷ triple 1 1 0 ∷ triple 2 1 0 ∷ [])
+      ∷ halts is (triple 0 0 0 ∷ [])
+      ∷ phases is (triple 0 0 0 ∷ [])
+      ∷ [];
+}
+
+-- False: "Clearing the newest submit when it is overtaken, so that nobody wins." As P6, with 2's commit before 1's.
+abbrev pub newerWins : Case
+newerWins = record {
+  n = 3;
+  start = opened 3;
+  calls = contended ++ (deliver 2 ∷ deliver 1 ∷ []);
+  claims = p6 .claims;
+}
+
+-- An idle member, given its own counts and what it knows.
+abbrev pub idleWith : Row → Matrix → Member
+idleWith own known = record {
+  phase = 0;
+  crashed = 0;
+  halt = 0;
+  slot = 0;
+  operation = 0;
+  own = own;
+  accepted = zeroRow;
+  last = zeroValue;
+  pending = zeroValue;
+  known = known;
+  first = zeroRecord;
+  second = zeroRecord;
+}
+
+-- Member 1 has begun 4,294,967,294 writes, each of them aborted. One more begins and is accepted; then the count is spent.
+abbrev pub p9 : Case
+p9 = record {
+  n = 2;
+  start = withMember (opened 2) 1 (idleWith (put zeroRow 1 4294967294) zeroMatrix);
+  calls = wholeWrite 1 77 ++ (writes 1 78 ∷ []);
+  claims =
+      output is (prints (pair 0 0) ++ (pair 9 0 ∷ []))
+      ∷ newest 1 is (pair 4294967295 0 ∷ pair 0 0 ∷ [])
+      ∷ [];
+}
+
+-- Crashes.
+
+-- a crash in phase 3: the commit is delivered and accepted, its outcome never; the value written is there for others
+abbrev pub p10 : Case
+p10 = record {
+  n = 2;
+  start = opened 2;
+  calls = writes 1 77 ∷ delivers 1 2 ++ (crash 1 ∷ deliver 1 ∷ deliver 1 ∷ wholeRead 2 1);
+  claims =
+      output
+      is (pair 0 1 ∷ pair 0 2 ∷ pair 0 3 ∷ pair 0 3 ∷ pair 0 4 ∷ pair 10 4 ∷ prints (triple 0 0 77))
+      ∷ newest 1 is (pair 1 1 ∷ pair 0 0 ∷ [])
+      ∷ [];
+}
+
+-- False: "Letting a crashed member's submit, once taken, abort operations whose submits the host takes after it."
+abbrev pub crashedSubmit : Case
+crashedSubmit = record {
+  n = 3;
+  start = opened 3;
+  calls = reads 1 3 ∷ deliver 1 ∷ crash 1 ∷ wholeRead 2 3 ++ wholeWrite 3 9 ++ (deliver 1 ∷ []);
+  claims =
+      output
+      is (pair 0 1 ∷ pair 0 2 ∷ pair 0 2 ∷ prints (triple 0 0 0) ++ prints (pair 0 0) ++ (pair 10 2 ∷ []))
+      ∷ newest 3 is (triple 0 0 0 ∷ triple 0 0 0 ∷ triple 0 1 1 ∷ [])
+      ∷ [];
+}
+
+-- It does abort one whose submit was taken before it, and no more than that one.
+abbrev pub crashedOvertakes : Case
+crashedOvertakes = record {
+  n = 3;
+  start = opened 3;
+  calls = reads 1 3 ∷ crash 1 ∷ reads 2 3 ∷ deliver 2 ∷ deliver 1 ∷ delivers 2 3 ++ wholeRead 2 3;
+  claims =
+      output
+      is (pair 0 1 ∷ pair 0 1 ∷ pair 0 1 ∷ pair 0 2 ∷ pair 0 2 ∷ pair 0 3 ∷ pair 0 5 ∷ pair 0 0 ∷ prints (triple 0 0 0))
+      ∷ newest 3 is (triple 0 0 0 ∷ triple 0 0 0 ∷ triple 0 2 0 ∷ [])
+      ∷ [];
+}
+
+-- What the host keeps.
+
+-- False: "Storing another member's read as the slot's stored record: check 24 then halts."
+abbrev pub readsNotStored : Case
+readsNotStored = record {
+  n = 3;
+  start = opened 3;
+  calls = wholeWrite 1 77 ++ wholeRead 2 1 ++ wholeRead 3 1 ++ wholeRead 2 1;
+  claims =
+      output is (prints (pair 0 0) ++ prints (triple 0 0 77) ++ prints (triple 0 0 77) ++ prints (triple 0 0 77))
+      ∷ records 1 is ((2 ∷ 1 ∷ read ∷ 2 ∷ 0 ∷ []) ∷ (1 ∷ 1 ∷ write ∷ 1 ∷ 77 ∷ []) ∷ [])
+      ∷ newest 1 is (triple 1 2 1 ∷ triple 0 0 0 ∷ triple 0 0 0 ∷ [])
+      ∷ [];
+}
+
+-- Nor is a member's read stored in its own slot, as line 5.12 of document 000 has it: check 25 then halts. The record of a read bears the
+-- member's own last value, and the read returns the slot's.
+abbrev pub ownReadsNotStored : Case
+ownReadsNotStored = record {
+  n = 2;
+  start = opened 2;
+  calls = wholeWrite 2 5 ++ wholeRead 2 1 ++ wholeRead 1 2;
+  claims =
+      output is (prints (pair 0 0) ++ prints (triple 0 0 0) ++ prints (triple 0 0 5))
+      ∷ records 1 is ((2 ∷ 1 ∷ read ∷ 1 ∷ 5 ∷ []) ∷ (1 ∷ 1 ∷ write ∷ 0 ∷ 0 ∷ []) ∷ [])
+      ∷ records 2 is ((1 ∷ 2 ∷ read ∷ 1 ∷ 0 ∷ []) ∷ (2 ∷ 2 ∷ write ∷ 1 ∷ 5 ∷ []) ∷ [])
+      ∷ [];
+}
+
+-- The halts. Each state is one of member 1 of 2 that reads slot 2 for the first time and has been answered.
+
+-- the matrix of two rows
+abbrev pub rows : Row → Row → Matrix
+rows a b = put (put zeroMatrix 1 a) 2 b
+
+abbrev pub row : ℕ → ℕ → Row
+row a b = put (put zeroRow 1 a) 2 b
+
+-- a record of slot 2, by a member, with a matrix
+abbrev pub by : ℕ → Matrix → Rec
+by i m = record { member = i; slot = 2; operation = write; count = 0; value = zeroValue; matrix = m }
+
+-- the state: what it knows, and the newest and the stored record sent
+abbrev pub reading : Matrix → Rec → Rec → Member
+reading known = answered (begun (idleWith zeroRow known) 2 read zeroValue)
+
+-- the case: the checks that fail are this one and those after it, the member halts with this one, and nothing moves it again
+abbrev pub halting : ℕ → List ℕ → Member → Case
+halting number others m = record {
+  n = 2;
+  start = withMember (opened 2) 1 m;
+  calls = deliver 1 ∷ deliver 1 ∷ reads 1 2 ∷ crash 1 ∷ [];
+  claims =
+      failing 1 3 is ((number ∷ others) ∷ [])
+      ∷ output is (pair 0 6 ∷ pair 10 6 ∷ pair 8 6 ∷ pair 11 6 ∷ [])
+      ∷ halts is (pair number 0 ∷ [])
+      ∷ [];
+}
+
+-- 21: nothing else fails, and the board itself passes 3
+abbrev pub seals : Case
+seals = record {
+  n = 2;
+  start = withMember (opened 2) 1 (reading zeroMatrix (by 2 zeroMatrix) (by 2 zeroMatrix));
+  calls = deliver 1 ∷ [];
+  claims =
+      failing 1 0 is ((21 ∷ []) ∷ [])
+      ∷ taking 1 0 is (pair 6 21 ∷ [])
+      ∷ taking 1 1 is (pair 6 21 ∷ [])
+      ∷ taking 1 2 is (pair 6 21 ∷ [])
+      ∷ taking 1 3 is (pair 3 0 ∷ [])
+      ∷ output is (pair 0 3 ∷ [])
+      ∷ [];
+}
+
+-- known row 2 (0,2), newest (0,1)
+abbrev pub p11 : Case
+p11 = halting 22 [] (reading (rows zeroRow (row 0 2)) (by 2 (rows zeroRow (row 0 1))) (by 2 (rows zeroRow (row 0 1))))
+
+-- Each other check alone; 25 has two grounds. 26 also rules out the false "Dropping check 26 and taking each entry at the larger".
+abbrev pub alone : List Case
+alone =
+    halting 23 [] (reading zeroMatrix (by 2 (rows zeroRow (row 1 0))) (by 2 zeroMatrix))
+    ∷ halting 24 [] (reading zeroMatrix (by 2 zeroMatrix) (by 1 zeroMatrix))
+    ∷ halting 25 [] (reading zeroMatrix (by 2 zeroMatrix) (by 2 (rows (row 0 1) zeroRow)))
+    ∷ halting 25 [] (reading zeroMatrix (by 2 (rows zeroRow (row 0 1))) (by 2 zeroMatrix))
+    ∷ halting 26 [] (reading (rows (row 1 0) zeroRow) (by 2 (rows (row 0 1) zeroRow)) (by 2 zeroMatrix))
+    ∷ halting 27 [] (reading zeroMatrix (by 2 (rows (row 1 0) zeroRow)) (by 2 zeroMatrix))
+    ∷ []
+
+-- Their order: a state that fails all, mended at one check after the other. With seals 2 the first is 21.
+abbrev pub failsAll : Member
+failsAll = reading (rows (row 0 1) (row 0 2)) (by 2 (rows (row 1 0) (row 1 1))) (by 1 zeroMatrix)
+
+abbrev pub unsealed : Case
+unsealed = record {
+  n = 2;
+  start = withMember (opened 2) 1 failsAll;
+  calls = [];
+  claims =
+      failing 1 2 is ((21 ∷ 22 ∷ 23 ∷ 24 ∷ 25 ∷ 26 ∷ 27 ∷ []) ∷ [])
+      ∷ taking 1 2 is (pair 6 21 ∷ [])
+      ∷ [];
+}
+
+abbrev pub mended : List Case
+mended =
+    halting 22 (23 ∷ 24 ∷ 25 ∷ 26 ∷ 27 ∷ []) failsAll
+    ∷ halting 23 (24 ∷ 25 ∷ 26 ∷ 27 ∷ []) (reading (rows (row 0 1) (row 0 1)) (by 2 (rows (row 1 0) (row 1 1))) (by 1 zeroMatrix))
+    ∷ halting 24 (25 ∷ 26 ∷ 27 ∷ []) (reading (rows (row 0 1) (row 0 1)) (by 2 (rows (row 1 0) (row 0 1))) (by 1 zeroMatrix))
+    ∷ halting 25 (26 ∷ 27 ∷ []) (reading (rows (row 0 1) (row 0 1)) (by 2 (rows (row 1 0) (row 0 1))) (by 2 zeroMatrix))
+    ∷ halting 26 (27 ∷ []) (reading (rows (row 0 1) (row 0 1)) (by 2 (rows (row 1 0) (row 0 1))) (by 2 (rows zeroRow (row 0 1))))
+    ∷ halting 27 [] (reading (rows zeroRow (row 0 1)) (by 2 (rows (row 1 0) (row 0 1))) (by 2 (rows zeroRow (row 0 1))))
+    ∷ []
+
+-- The table.
+abbrev pub cases : List Case
+cases =
+    (example ∷ p2 ∷ p3 ∷ p4 ∷ p5 ∷ p6 ∷ p7 ∷ p8 ∷ p9 ∷ p10 ∷ p11 ∷ [])
+    ++ (refusals ∷ newerWins ∷ crashedSubmit ∷ crashedOvertakes ∷ readsNotStored ∷ ownReadsNotStored ∷ seals ∷ unsealed ∷ [])
+    ++ alone
+    ++ mended
