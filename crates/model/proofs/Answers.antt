@@ -90,4 +90,4 @@ pub taken-begin : (kind : Kind) (n phase crashed count i r t : ℕ) → BeginTak
     → beginAnswer kind n phase crashed count i r t ≡ 0
 unfolding beginAnswer
 taken-begin kind n phase crashed count i r t b =
-  rw (b .member, b .slot, b .operation, b .allowed, b .isIdle, b .isUp, lt-leb (kind .limit) count (b .room))
+    rw (b .member, b .slot, b .operation, b .allowed, b .isIdle, b .isUp, lt-leb (kind .limit) count (b .room))

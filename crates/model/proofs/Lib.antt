@@ -5,3 +5,9 @@ pub mod Invariant
 pub mod InvariantMember
 pub mod InvariantHost
 pub mod AsReference
+pub mod HistoryInvariant
+pub mod HistoryLists
+pub mod HistoryParts
+pub mod HistorySteps
+pub mod History
+pub mod Demand3

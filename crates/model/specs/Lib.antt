@@ -10,3 +10,4 @@ pub mod Reference
 pub mod History
 pub mod Demand3
 pub mod RecordWords
+pub mod Table

@@ -1,0 +1,12 @@
+-- Demand 3, for every kind of board, every n and every list of calls from the opening. Assumes nothing.
+use Prim.Native.Nat.{ℕ}
+use mathlib.Core.List.{List}
+use Rattle.model.specs.Kinds.{Kind}
+use Rattle.model.specs.Board.{opened}
+use Rattle.model.specs.Runs.{Call, run}
+use Rattle.model.specs.Demand3.{Demand3}
+use Rattle.model.proofs.AsReference.{as-reference}
+use Rattle.model.proofs.History.{demand3-as-reference}
+
+pub demand3 : (kind : Kind) (n : ℕ) (calls : List Call) → Demand3 kind n calls (run kind n (opened n) calls)
+demand3 kind n calls = demand3-as-reference kind n calls (run kind n (opened n) calls) (as-reference kind n calls)

@@ -1,0 +1,96 @@
+-- The history's half of demand 3, of the reference alone, for every kind, every n and every list of calls. Assumes nothing.
+use Prim.Native.Nat.{ℕ, _+_}
+use mathlib.Core.Path.{_≡_, refl, ap}
+use mathlib.Core.Bool.{true, cond}
+use mathlib.Core.List.{List, [], _∷_}
+use mathlib.Core.Option.{none}
+use native.Mathlib.Omega.{arith}
+use lib.Dec.{eqb}
+use Rattle.lists.specs.Functions.{inside}
+use Rattle.lists.proofs.Functions.{on, apart}
+use Rattle.model.specs.Kinds.{Kind}
+use Rattle.model.specs.Numbers.{deliverAnswer}
+use Rattle.model.specs.Runs.{Call, begin, deliver, crash, Seen}
+use Rattle.model.specs.Reference.{Reference, refIdle, refOpened, refAnswer, refDone, refDoneReturns, refAfter, refSeen, refRun, refLeft}
+use Rattle.model.specs.History.{Watch, begunOp, watchCall, watchStep, watchFrom, nothingYet, watched, acceptedOf, lastWritten}
+use Rattle.model.specs.Demand3.{Every, Demand3}
+use Rattle.model.proofs.HistoryInvariant.{Agrees}
+use Rattle.model.proofs.HistoryLists.{split-both, every, serial-of, realTime-of}
+use Rattle.model.proofs.HistorySteps.{refused-step, begin-step, crash-step, deliver-step}
+
+-- at first nobody runs anything, and nothing has happened
+agree-opened : Agrees refOpened nothingYet
+unfolding refOpened nothingYet refIdle begunOp acceptedOf lastWritten
+agree-opened = record {
+  running = λ i. record {
+    noHalt = omega arith;
+    asGiven = λ p. absurd (omega arith);
+    began = omega arith;
+    submitted = omega arith;
+    fresh = λ p. refl;
+    contest = λ p. absurd (omega arith);
+  };
+  pending = λ i p. tt;
+  past = record { taken = tt; judged = tt; reads = tt; realTime = tt };
+  book = record { written = λ r. refl; accepted = refl };
+}
+
+-- a deliver that is answered 0 finds an operation running
+deliver-runs : (n phase crashed i : ℕ) → eqb (deliverAnswer n phase crashed i) 0 ≡ true → phase ≡ 0 → ⊥
+unfolding deliverAnswer
+deliver-runs n phase crashed i e z = apart e (rw z (on (inside n i) (λ a. rw a) (λ a. rw a)))
+
+module _ (kind : Kind) (n : ℕ) where
+  agree-done : (ref : Reference) (w : Watch) → Agrees ref w → (call : Call) (s : Seen) → eqb (refAnswer kind n ref call) 0 ≡ true
+      → ((k : ℕ) → s .phases k ≡ refDone ref call .members k .phase) → s .returned ≡ refDoneReturns ref call
+      → Agrees (refDone ref call) (watchCall w (w .steps + 1) call s)
+  unfolding refDone watchCall refDoneReturns refAnswer
+  agree-done ref w h (begin i r t v) s e p b = begin-step ref w h i r t v
+  agree-done ref w h (deliver i) s e p b =
+      deliver-step ref w h i s (deliver-runs n (ref .members i .phase) (ref .members i .crashed) i e) b (p i)
+  agree-done ref w h (crash i) s e p b = crash-step ref w h i
+
+  agree-after : (ref : Reference) (w : Watch) → Agrees ref w → (call : Call)
+      → Agrees (refAfter kind n ref call) (watchStep w call (refSeen kind n ref call))
+  unfolding refAfter watchStep refSeen
+  agree-after ref w h call = split-both Agrees (eqb (refAnswer kind n ref call) 0)
+      (λ e. agree-done ref w h call (refSeen kind n ref call) e
+      (λ k. ap (λ t. cond t (refDone ref call) ref .members k .phase) e)
+      (ap (λ t. cond t (refDoneReturns ref call) none) e))
+      (λ e. refused-step ref w h)
+
+  agree-left : (ref : Reference) (w : Watch) → Agrees ref w → (calls : List Call)
+      → Agrees (refLeft kind n ref calls) (watchFrom w calls (refRun kind n ref calls))
+  unfolding refLeft watchFrom refRun
+  agree-left ref w h [] = h
+  agree-left ref w h (call ∷ calls) =
+      agree-left (refAfter kind n ref call) (watchStep w call (refSeen kind n ref call)) (agree-after ref w h call) calls
+
+  no-halt : (ref : Reference) (w : Watch) → Agrees ref w → (calls : List Call)
+      → Every (λ s. (k : ℕ) → s .phases k ≡ 6 → ⊥) (refRun kind n ref calls)
+  unfolding refRun refSeen
+  no-halt ref w h [] = tt
+  no-halt ref w h (call ∷ calls) =
+      let x = agree-after ref w h call in (
+        (λ k e. let p = x .running k .noHalt in omega arith),
+        no-halt (refAfter kind n ref call) (watchStep w call (refSeen kind n ref call)) x calls,
+      )
+
+-- so demand 3 holds of the reference's own run, and of every run that is seen as the reference's is
+pub history-of-reference : (kind : Kind) (n : ℕ) (calls : List Call) → Demand3 kind n calls (refRun kind n refOpened calls)
+unfolding watched
+history-of-reference kind n calls =
+    let w = watched calls (refRun kind n refOpened calls) in
+    let h = agree-left kind n refOpened nothingYet agree-opened calls in
+    record {
+      asReference = refl;
+      noHalt = no-halt kind n refOpened nothingYet agree-opened calls;
+      history = h .book .accepted;
+      serial = serial-of (w .decided) (h .past .reads);
+      realTime = realTime-of (w .decided) (h .past .realTime);
+      aborts = every (λ o j. j .verdict) (w .decided) (h .past .judged);
+    }
+
+pub demand3-as-reference : (kind : Kind) (n : ℕ) (calls : List Call) (seen : List Seen) → seen ≡ refRun kind n refOpened calls
+    → Demand3 kind n calls seen
+demand3-as-reference kind n calls seen e = rw e (history-of-reference kind n calls)
