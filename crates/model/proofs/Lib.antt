@@ -11,3 +11,5 @@ pub mod HistoryParts
 pub mod HistorySteps
 pub mod History
 pub mod Demand3
+pub mod Published
+pub mod PublishedHost

@@ -11,3 +11,6 @@ pub mod History
 pub mod Demand3
 pub mod RecordWords
 pub mod Table
+pub mod Halves
+pub mod Published
+pub mod PublishedClaims

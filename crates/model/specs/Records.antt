@@ -33,7 +33,10 @@ opening slot = record { member = slot; slot = slot; operation = write; count = 0
 unfoldable pub zeroRecord : Rec
 zeroRecord = record { member = 0; slot = 0; operation = 0; count = 0; value = zeroValue; matrix = zeroMatrix }
 
--- the part of a record that a board of n has: its value's 8 words, and its matrix at slots and members 1 to n
+-- the part of a matrix, and of a record, that a board of n has: slots and members 1 to n, and the value's 8 words
+abbrev pub matrixWithin : ℕ → Matrix → Matrix
+matrixWithin n m = within n zeroRow (λ j. within n 0 (m j))
+
 unfoldable pub recordWithin : ℕ → Rec → Rec
 recordWithin n r = record {
   member = r .member;
@@ -41,5 +44,5 @@ recordWithin n r = record {
   operation = r .operation;
   count = r .count;
   value = within 8 0 (r .value);
-  matrix = within n zeroRow (λ j. within n 0 (r .matrix j));
+  matrix = matrixWithin n (r .matrix);
 }

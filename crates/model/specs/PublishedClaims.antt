@@ -1,0 +1,140 @@
+-- What is claimed: the member's and the host's definitions are the published rules of Published.antt, with document 01's differences.
+use Prim.Native.Nat.{ℕ, _/_, _%_}
+use mathlib.Core.Path.{_≡_}
+use mathlib.Core.Bool.{Bool, true, cond, _&&_}
+use mathlib.Core.List.{List, [], _∷_, _++_}
+use mathlib.Core.Option.{none}
+use lib.Dec.{eqb}
+use Rattle.model.specs.Records.{Value, Rec}
+use Rattle.model.specs.Kinds.{Kind}
+use Rattle.model.specs.Member.{Member, begun, answered, haltNumber, passed, judged, completed, dropped, returnedBy}
+use Rattle.model.specs.Board.{Board, opened, sentRecord}
+use Rattle.model.specs.Runs.{Call, begin, deliver, crash, answerOf, after}
+use Rattle.model.specs.Published.{
+  Id,
+  Client,
+  line33,
+  line34,
+  line37,
+  line38,
+  line39,
+  line310,
+  line312,
+  line312added,
+  line316,
+  line328,
+  opOf,
+  afterOk,
+  afterOkWrites,
+  afterAbortAmended,
+  serverOpened,
+  ToServer,
+  submit,
+  commit,
+  FromServer,
+  submitR,
+  commitR,
+  line512writes,
+  serverAnswers,
+}
+
+-- The member.
+
+-- the client's variables that a member's state holds, with op.value: between operations the last own value, in one the pending value
+unfoldable pub variables : Member → Value → Client
+variables m opValue = record {
+  opCnt = m .own;
+  tsSuc = m .accepted;
+  valueSuc = m .last;
+  opValue = opValue;
+  tsmComp = m .known;
+}
+
+unfoldable pub resting : Member → Client
+resting m = variables m (m .last)
+
+unfoldable pub working : Member → Client
+working m = variables m (m .pending)
+
+-- what member i's submit says
+unfoldable pub submitOf : ℕ → Member → Id
+submitOf i m = record { client = i; count = m .own (m .slot); operation = m .operation; reg = m .slot }
+
+-- the seals value: "bit 0 for the newest record, bit 1 for the stored one"
+unfoldable pub newestHeld : ℕ → Bool
+newestHeld seals = eqb (seals % 2) 1
+
+unfoldable pub storedHeld : ℕ → Bool
+storedHeld seals = eqb (seals / 2) 1
+
+-- Of every state m of member i, honest host or not: the newest record of a reply is lso, the stored one x_op.
+pub record MemberAsPublished (n i : ℕ) : Type 0 where
+  -- begin is 3.3, and 3.16 made at once
+  pub begins : (m : Member) (r t : ℕ) (v : Value) → working (begun m r t v) ≡ line316 t v (line33 r (resting m))
+  -- its submit is that of 3.4 and 3.5
+  pub submits : (m : Member) (r t : ℕ) (v : Value) → submitOf i (begun m r t v) ≡ line34 i t r (line33 r (resting m))
+  -- the member does not halt exactly when 3.7 to 3.12 and amendment 2's check pass
+  pub checks : (m : Member) (newest stored : Rec) (seals : ℕ)
+      → eqb (haltNumber n i m newest stored seals) 0
+      ≡ (line37 (newestHeld seals) (storedHeld seals)
+      && line38 n i (m .slot) (working m) newest
+      && line39 (m .slot) stored
+      && line310 n (m .slot) stored newest
+      && line312 n (m .slot) (working m) newest
+      && line312added n i (m .slot) (working m) newest)
+  -- its record, and what its commit sends, is the op of the COMMIT
+  pub commits : (m : Member) (newest stored : Rec)
+      → passed n i m newest stored .first ≡ opOf n i (m .operation) (m .slot) (working m) newest
+  pub sends : (m : Member) (newest stored : Rec)
+      → sentRecord i (passed n i m newest stored) ≡ opOf n i (m .operation) (m .slot) (working m) newest
+  -- the outcome accepted is 3.21, 3.26 and document 01's 3.27; aborted it is 3.23, by amendment 1 without 3.21
+  pub accepts : (m : Member) → variables (completed m) (m .pending) ≡ afterOkWrites (m .operation) (m .slot) (m .first) (working m)
+  pub aborts : (m : Member) → resting (dropped m) ≡ afterAbortAmended (working m)
+  -- the value returned is 3.28's, and none after ABORT
+  pub returns : (m : Member) (won : Bool) → returnedBy m won ≡ cond won (line328 (m .operation) (m .second)) none
+  -- a whole operation that is accepted: Algorithm 3 as printed, 3.27 too
+  pub whole : (m : Member) (r t : ℕ) (v : Value) (newest stored : Rec)
+      → let c = line316 t v (line33 r (resting m)) in
+      resting (completed (judged (passed n i (answered (begun m r t v) newest stored) newest stored) true))
+      ≡ afterOk r (opOf n i t r c newest) c
+
+-- The host.
+
+-- the message that a call answered 0 takes to the host: a deliver in phase 1 the submit, in phase 3 the commit
+unfoldable pub sentBy : Board → Call → List ToServer
+sentBy b (begin i r t v) = []
+sentBy b (deliver i) =
+    let m = b .members i in
+    cond (eqb (m .phase) 1) (submit (submitOf i m) ∷ [])
+    (cond (eqb (m .phase) 3) (commit (sentRecord i m) ∷ [])
+    [])
+sentBy b (crash i) = []
+
+-- the host's answer to it, as the member holds it on the board that the call leaves: the two records of the reply, or phase 4 or 5
+unfoldable pub gotBy : Board → Board → Call → List FromServer
+gotBy b left (begin i r t v) = []
+gotBy b left (deliver i) =
+    let phase = b .members i .phase in
+    let m = left .members i in
+    cond (eqb phase 1) (submitR (m .second) (m .first) ∷ [])
+    (cond (eqb phase 3) (commitR (eqb (m .phase) 4) ∷ [])
+    [])
+gotBy b left (crash i) = []
+
+-- the messages of a run, and the answers that its members got
+unfoldable pub messagesOf : Kind → ℕ → Board → List Call → List ToServer
+messagesOf kind n b [] = []
+messagesOf kind n b (call ∷ calls) =
+    cond (eqb (answerOf kind n b call) 0) (sentBy b call) [] ++ messagesOf kind n (after kind n b call) calls
+
+unfoldable pub answersOf : Kind → ℕ → Board → List Call → List FromServer
+answersOf kind n b [] = []
+answersOf kind n b (call ∷ calls) =
+    let left = after kind n b call in
+    cond (eqb (answerOf kind n b call) 0) (gotBy b left call) [] ++ answersOf kind n left calls
+
+-- Algorithm 5 with document 01's 5.12, fed the messages of a run from the opening, gives the answers that the run's members got: to each
+-- submit the same records, to each commit the same verdict.
+pub record HostAsPublished (kind : Kind) (n : ℕ) (calls : List Call) : Type 0 where
+  pub answers : serverAnswers line512writes serverOpened (messagesOf kind n (opened n) calls)
+      ≡ answersOf kind n (opened n) calls
