@@ -236,3 +236,79 @@ module _ {A : Type 0} where
       ∙ pasted-above 0 k g (λ i. d) (j - 1) (omega arith)
       ∙ sym (numbered-off k d g j (inside-above k j (omega arith))))
       (λ q. numbered-off n d (pasted 0 k g (λ i. d)) j q ∙ sym (numbered-off k d g j (inside-above k j (omega arith)))))
+
+-- Runs side by side, and what is read from a place on.
+
+module _ {A : Type 0} where
+  -- the first value of a run
+  pub pasted-one : (a : ℕ) (g f : ℕ → A) → put f a (g 0) ≡ pasted a 1 g f
+  pasted-one a g f =
+      ap (λ h. put h a (g 0)) (sym (pasted-none a g f))
+      ∙ ap (λ i. put (pasted a 0 g f) i (g 0)) (let e : a ≡ a + 0 = omega arith in e)
+      ∙ pasted-more a 0 g f
+
+  -- a run that goes on where another ends
+  pub pasted-join : (a k m : ℕ) (g h f : ℕ → A) → ((i : ℕ) → i < m → h i ≡ g (k + i))
+      → pasted (a + k) m h (pasted a k g f) ≡ pasted a (k + m) g f
+  pasted-join a k m g h f e = fun-ext λ i. by-place (a + k) m i
+      (λ p. pasted-below (a + k) m h (pasted a k g f) i p ∙ by-place a k i
+      (λ q. pasted-below a k g f i q ∙ sym (pasted-below a (k + m) g f i q))
+      (λ q r. pasted-in a k g f i q r ∙ sym (pasted-in a (k + m) g f i q (omega arith)))
+      (λ q. absurd (omega arith)))
+      (λ p q. pasted-in (a + k) m h (pasted a k g f) i p q
+      ∙ e (i - (a + k)) (omega arith)
+      ∙ ap g (let s : k + (i - (a + k)) ≡ i - a = omega arith in s)
+      ∙ sym (pasted-in a (k + m) g f i (omega arith) (omega arith)))
+      (λ p. pasted-above (a + k) m h (pasted a k g f) i p
+      ∙ pasted-above a k g f i (omega arith)
+      ∙ sym (pasted-above a (k + m) g f i (omega arith)))
+
+  pub from-at : (f : ℕ → A) (a i : ℕ) → from f a i ≡ f (a + i)
+  unfolding from
+  from-at f a i = refl
+
+  pub from-first : (f : ℕ → A) (a : ℕ) → from f a 0 ≡ f a
+  unfolding from
+  from-first f a = ap f (let e : a + 0 ≡ a = omega arith in e)
+
+  pub from-zero : (f : ℕ → A) → from f 0 ≡ f
+  unfolding from
+  from-zero f = fun-ext λ i. ap f (let e : 0 + i ≡ i = omega arith in e)
+
+  pub from-from : (f : ℕ → A) (a b : ℕ) → from (from f a) b ≡ from f (a + b)
+  unfolding from
+  from-from f a b = fun-ext λ i. ap f (let e : a + (b + i) ≡ a + b + i = omega arith in e)
+
+  -- where a run was pasted: in it, from its first place on, before it and after it
+  pub from-pasted-in : (a k : ℕ) (g f : ℕ → A) (b i : ℕ) → a ≤ b → b + i < a + k → from (pasted a k g f) b i ≡ from g (b - a) i
+  unfolding from
+  from-pasted-in a k g f b i p q =
+      pasted-in a k g f (b + i) (omega arith) q ∙ ap g (let e : b + i - a ≡ b - a + i = omega arith in e)
+
+  pub from-pasted-at : (a k : ℕ) (g f : ℕ → A) (i : ℕ) → i < k → from (pasted a k g f) a i ≡ g i
+  unfolding from
+  from-pasted-at a k g f i h =
+      pasted-in a k g f (a + i) (omega arith) (omega arith) ∙ ap g (let e : a + i - a ≡ i = omega arith in e)
+
+  pub from-pasted-below : (a k : ℕ) (g f : ℕ → A) (b i : ℕ) → b + i < a → from (pasted a k g f) b i ≡ from f b i
+  unfolding from
+  from-pasted-below a k g f b i h = pasted-below a k g f (b + i) h
+
+  pub from-pasted-above : (a k : ℕ) (g f : ℕ → A) (b : ℕ) → a + k ≤ b → from (pasted a k g f) b ≡ from f b
+  unfolding from
+  from-pasted-above a k g f b h = fun-ext λ i. pasted-above a k g f (b + i) (omega arith)
+
+  -- values that were numbered from 1 already
+  pub numbered-next : (n : ℕ) (d : A) (f : ℕ → A) → numbered n d (λ i. f (i + 1)) ≡ within n d f
+  numbered-next n d f =
+      numbered-within n d (λ i. f (i + 1))
+      ∙ within-same n d (λ k. f (k - 1 + 1)) f (λ k p q. ap f (let e : k - 1 + 1 ≡ k = omega arith in e))
+
+  -- nothing but blanks
+  pub within-blank : (n : ℕ) (d : A) → within n d (λ k. d) ≡ (λ k. d)
+  within-blank n d = fun-ext λ k. on (inside n k)
+      (λ p. within-at n d (λ k. d) k (inside-low n k p) (inside-high n k p))
+      (λ p. within-off n d (λ k. d) k p)
+
+  pub numbered-blank : (n : ℕ) (d : A) → numbered n d (λ i. d) ≡ (λ k. d)
+  numbered-blank n d = numbered-within n d (λ i. d) ∙ within-blank n d

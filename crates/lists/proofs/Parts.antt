@@ -5,12 +5,12 @@ use mathlib.Core.Bool.{Bool, true, false, cond, _&&_}
 use mathlib.Core.List.{List, [], _∷_, _++_}
 use native.Mathlib.Omega.{arith}
 use lib.Dec.{eqb, leb, ltb}
-use lib.ListN.{length, getD, take, drop, set, length-append, length-take, length-drop, length-set, List·getD-append, List·getD-eq-default}
+use lib.ListN.{length, getD, take, drop, set, replicate, length-append, length-take, length-drop, length-set, length-replicate, getD-replicate, List·getD-append, List·getD-eq-default}
 use lib.Seq.{ext-getD, getD-take, getD-drop, getD-append-add, getD-set-same, getD-set-other, length-take-le}
 use borrow.Author.Tests.{leb-true, leb-false, ltb-true, ltb-false, eqb-true, eqb-false}
 use Rattle.lists.specs.Functions.{put, pasted, from}
 use Rattle.lists.specs.Parts.{words, tabulate, replaced}
-use Rattle.lists.proofs.Functions.{on, by-place, put-at, put-off, pasted-in, pasted-below, pasted-above, pasted-same}
+use Rattle.lists.proofs.Functions.{on, by-place, put-at, put-off, pasted-in, pasted-below, pasted-above, pasted-same, pasted-more}
 
 -- Two lists of one length with the same words are one list.
 pub same-words : (l m : List ℕ) → length l ≡ length m → words l ≡ words m → l ≡ m
@@ -94,3 +94,71 @@ replaced-of l m a k f fits same h = same-words m (replaced l a (tabulate k f))
 
     run : pasted a k f (words l) ≡ pasted a (length (tabulate k f)) (words (tabulate k f)) (words l)
     run = rw length-tabulate (pasted-same a k f (words (tabulate k f)) (words l) (λ i p. sym (tabulate-at k f i p)))
+
+-- The same in the words of p itself.
+pub replaced-by : (l m : List ℕ) (a : ℕ) (p : List ℕ) → a + length p ≤ length l → length m ≡ length l
+    → words m ≡ pasted a (length p) (words p) (words l) → m ≡ replaced l a p
+replaced-by l m a p fits same h =
+    same-words m (replaced l a p) (same ∙ sym (length-replaced l a p fits)) (h ∙ sym (words-replaced l a p fits))
+
+-- A store, and a run with one value more, of what f sees at each place of any list, d standing past its end.
+
+module _ {A B : Type 0} (f : A → B) (d : A) where
+  abbrev pub seen : List A → ℕ → B
+  seen l i = f (getD l i d)
+
+  pub seen-set : (l : List A) (i : ℕ) (v : A) → i < length l → seen (set l i v) ≡ put (seen l) i (f v)
+  seen-set l i v h = fun-ext λ k. on (eqb k i)
+      (λ e. let s : k ≡ i = eqb-true k i e in rw s (ap f (getD-set-same l i v d h) ∙ sym (put-at (seen l) i (f v))))
+      (λ e. let s : k ≡ i → ⊥ = eqb-false k i e in ap f (getD-set-other l i k v d s) ∙ sym (put-off (seen l) i (f v) k s))
+
+  pub seen-more : (l : List A) (a i j : ℕ) (v : A) (g w : ℕ → B) → seen l ≡ pasted a i g w → j ≡ a + i → j < length l → f v ≡ g i
+      → seen (set l j v) ≡ pasted a (i + 1) g w
+  seen-more l a i j v g w h e p q = seen-set l j v p ∙ rw (h, e, q) (pasted-more a i g w)
+
+  -- one element again and again, seen as what stands past the end
+  pub seen-replicate : (k : ℕ) (v : A) → f v ≡ f d → seen (replicate k v) ≡ (λ i. f d)
+  seen-replicate k v p = fun-ext λ i. on (ltb i k)
+      (λ e. ap f (getD-replicate k i v d (ltb-true i k e)) ∙ p)
+      (λ e. let h : k ≤ i = ltb-false i k e in ap f (List·getD-eq-default (replicate k v) d (rw length-replicate h)))
+
+-- the same of words
+pub words-zeros : (k : ℕ) → words (replicate k 0) ≡ (λ i. 0)
+words-zeros k = seen-replicate (λ x. x) 0 k 0 refl
+
+pub words-more : (l : List ℕ) (a i j v : ℕ) (g w : ℕ → ℕ) → words l ≡ pasted a i g w → j ≡ a + i → j < length l → v ≡ g i
+    → words (set l j v) ≡ pasted a (i + 1) g w
+words-more = seen-more (λ x. x) 0
+
+-- Lists as lists of a function's values: two in a row, a part of a list, and one word again and again.
+
+pub tabulate-append : (a b : ℕ) (f : ℕ → ℕ) → tabulate (a + b) f ≡ tabulate a f ++ tabulate b (from f a)
+unfolding tabulate from
+tabulate-append zero b f =
+    let e : zero + b ≡ b = omega arith in
+    rw e (tabulate-same b f (from f zero) (λ i h. ap f (let s : i ≡ zero + i = omega arith in s)))
+tabulate-append (suc a) b f =
+    let e : suc a + b ≡ suc (a + b) = omega arith in
+    ap (λ n. tabulate n f) e
+    ∙ ap (λ l. f zero ∷ l) (tabulate-append a b (λ i. f (suc i)))
+    ∙ ap (λ l. f zero ∷ (tabulate a (λ i. f (suc i)) ++ l))
+    (tabulate-same b (λ i. f (suc (a + i))) (from f (suc a)) (λ i h. ap f (let s : suc (a + i) ≡ suc a + i = omega arith in s)))
+
+pub part-tabulate : (l : List ℕ) (a k : ℕ) → a + k ≤ length l → take k (drop a l) ≡ tabulate k (from (words l) a)
+unfolding from
+part-tabulate l a k h = ext-getD 0 (take k (drop a l)) (tabulate k (from (words l) a)) (size ∙ sym (length-tabulate k (from (words l) a)))
+    (λ i p. let q : i < k = omega (arith, size) in
+    getD-take k (drop a l) i 0 q ∙ getD-drop a l i 0 ∙ sym (tabulate-at k (from (words l) a) i q))
+  where
+    size : length (take k (drop a l)) ≡ k
+    size = simp (length-take, length-drop) (omega arith)
+
+pub replicate-tabulate : (k v : ℕ) → replicate k v ≡ tabulate k (λ i. v)
+unfolding tabulate
+replicate-tabulate zero v = refl
+replicate-tabulate (suc k) v = ap (λ l. v ∷ l) (replicate-tabulate k v)
+
+-- what stands after the first of two lists
+pub from-append : (p q : List ℕ) → from (words (p ++ q)) (length p) ≡ words q
+unfolding from
+from-append p q = fun-ext λ i. getD-append-add p q i 0

@@ -1,17 +1,17 @@
 -- What is said once of rows and matrices by value.
-use Prim.Native.Nat.{ℕ, _+_, _-_, _≤_, _<_}
-use mathlib.Core.Path.{_≡_, refl, sym, ap, _∙_}
+use Prim.Native.Nat.{ℕ, _+_, _≤_, _<_}
+use mathlib.Core.Path.{_≡_, sym, ap, _∙_}
 use mathlib.Core.List.{List}
-use mathlib.Core.Bool.{Bool, true, false}
+use mathlib.Core.Bool.{true, false}
 use lib.Dec.{leb}
 use borrow.Author.Tests.{le-leb, lt-leb}
 use native.Mathlib.Omega.{arith}
-use lib.ListN.{length, getD, set}
-use Rattle.lists.specs.Functions.{put, numbered, each}
+use lib.ListN.{length, getD, set, replicate}
+use Rattle.lists.specs.Functions.{put, pasted, numbered, each}
 use Rattle.lists.specs.Parts.{words}
-use Rattle.lists.proofs.Functions.{numbered-at, numbered-put, each-more, each-fails}
-use Rattle.lists.proofs.Parts.{words-set}
-use Rattle.model.specs.Rows.{zeroRow, below, matrixBelow}
+use Rattle.lists.proofs.Functions.{numbered-at, numbered-put, numbered-padded, numbered-blank, each-more, each-fails}
+use Rattle.lists.proofs.Parts.{seen, seen-replicate, words-set, words-zeros}
+use Rattle.model.specs.Rows.{Row as RowOf, zeroRow, zeroMatrix, below, matrixBelow}
 use Rattle.model.specs.RecordWords.{rowOf}
 use Rattle.rows.specs.declared.Row.{Row}
 use Rattle.rows.specs.Meaning.{rowIn, matrixIn, noRow}
@@ -61,3 +61,35 @@ unfolding matrixBelow
 rows-below-fails a b n j h p q =
     let g : j < 12 = omega arith in
     each-fails n (λ k. below n (matrixIn a k) (matrixIn b k)) (j + 1) (omega arith) (omega arith) (rw (row-at a j g, row-at b j g) q)
+
+-- Zero: `Row::ZERO`, and a matrix of it.
+
+abbrev pub zeroCounts : Row
+zeroCounts = record { counts = replicate 12 0 }
+
+pub zero-row : rowIn zeroCounts ≡ zeroRow
+unfolding rowIn rowOf zeroRow
+zero-row = ap (numbered 12 0) (words-zeros 12) ∙ numbered-blank 12 0
+
+pub no-row : rowIn noRow ≡ zeroRow
+unfolding rowIn rowOf zeroRow
+no-row = ap (numbered 12 0) (words-zeros 0) ∙ numbered-blank 12 0
+
+pub zero-rows : seen rowIn noRow (replicate 12 zeroCounts) ≡ zeroMatrix
+unfolding zeroMatrix
+zero-rows = seen-replicate rowIn noRow 12 zeroCounts (zero-row ∙ sym no-row) ∙ ap (λ a k. a) no-row
+
+pub zero-matrix : matrixIn (replicate 12 zeroCounts) ≡ zeroMatrix
+unfolding matrixIn zeroMatrix
+zero-matrix = ap (numbered 12 zeroRow) zero-rows ∙ numbered-blank 12 zeroRow
+
+-- The first n entries or rows read one by one, the others left zero.
+
+pub row-read : (r : Row) (n : ℕ) (g : ℕ → ℕ) → n ≤ 12 → words (r .counts) ≡ pasted 0 n g (λ k. 0) → rowIn r ≡ rowOf n g
+unfolding rowIn rowOf
+row-read r n g h e = ap (numbered 12 0) e ∙ numbered-padded 12 n 0 g h
+
+pub matrix-read : (m : List Row) (n : ℕ) (g : ℕ → RowOf) → n ≤ 12 → seen rowIn noRow m ≡ pasted 0 n g zeroMatrix
+    → matrixIn m ≡ numbered n zeroRow g
+unfolding matrixIn zeroMatrix
+matrix-read m n g h e = ap (numbered 12 zeroRow) e ∙ numbered-padded 12 n zeroRow g h

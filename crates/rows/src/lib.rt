@@ -1,7 +1,7 @@
 // Timestamp rows and matrices by value: one entry replaced, and comparison over the first n entries.
 ghost use mathlib.Core.Path.{_≡_};
 ghost use Prim.Native.Nat.{min};
-ghost use Rattle.model.specs.Rows.{below as belowOf, comparable as comparableOf, larger as largerOf, matrixBelow, withCount};
+ghost use Rattle.model.specs.Rows.{below as belowOf, comparable as comparableOf, larger as largerOf, matrixBelow, withCount, zeroRow};
 ghost use Rattle.rows.specs.Meaning.{rowIn, matrixIn};
 
 // A row of a working copy: a count for each of twelve members, the unused ones zero.
@@ -18,6 +18,13 @@ fn entries(n: usize) -> usize
 
 impl Row {
     pub const ZERO: Row = Row { counts: [0; 12] };
+
+    // The zero row, proved to be it: what the constant above stands for.
+    pub fn zero() -> Row
+        ensures { λ r. ⌜ rowIn r ≡ zeroRow ⌝ }
+    {
+        Row::ZERO
+    }
 
     // The row with one member's count replaced. A member outside 1 to 12 leaves it as it was.
     pub fn with(mut self, member: usize, count: u32) -> Row

@@ -1,3 +1,4 @@
+-- `matrix_below` meets its contract: each row passed is below its fellow. Assumes nothing.
 use borrow.Author.Needs.{needs}
 use Prim.Native.Nat.{ℕ, _+_, _-_, _≤_, _<_, min}
 use mathlib.Core.Path.{_≡_, refl, sym, ap, _∙_}
@@ -11,10 +12,6 @@ use Rattle.rows.specs.Meaning.{rowIn, matrixIn}
 use Rattle.rows.proofs.Laws.{rows-below-more, rows-below-fails}
 use Rattle.rows.proofs.matrix_below.Statement.{statement}
 use Rattle.rows.proofs.matrix_below.Tie as tie
-use Rattle.rows.proofs.matrix_below.Reads as reads
-use Rattle.rows.proofs.matrix_below.Lts as lts
-use Rattle.rows.proofs.Row.below.Reads as below-reads
-use Rattle.rows.proofs.entries.Reads as entries-reads
 
 abbrev Inv-loop : tie.InvT-loop
 Inv-loop n a b last j₀ j = (j ≤ last) × ((last ≡ min n 12) × (each j (λ k. below (min n 12) (matrixIn a k) (matrixIn b k)) ≡ true))

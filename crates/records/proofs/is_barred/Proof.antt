@@ -1,0 +1,17 @@
+-- `is_barred` meets its contract. Assumes nothing.
+use mathlib.Core.Path.{_≡_, refl, sym}
+use borrow.Author.Tests.{eq-eqb, ne-eqb}
+use Rattle.model.specs.Kinds.{barred}
+use Rattle.records.proofs.is_barred.Statement.{statement}
+use Rattle.records.proofs.is_barred.Tie as tie
+
+returns : tie.Need-returns
+unfolding barred
+returns c = rw (eq-eqb (c .before .args .operation) 2 (c .if1 .taken))
+
+returns-2 : tie.Need-returns-2
+unfolding barred
+returns-2 c = rw (ne-eqb (c .before .args .operation) 2 (c .if1 .left))
+
+pub is-barred-spec : {M : Type 1} → statement M
+is-barred-spec = tie.close (tie.spec returns returns-2)

@@ -1,0 +1,17 @@
+-- `is_operation` meets its contract. Assumes nothing.
+use mathlib.Core.Path.{_≡_, refl, sym}
+use borrow.Author.Tests.{eq-eqb, ne-eqb}
+use Rattle.model.specs.Kinds.{isOperation}
+use Rattle.records.proofs.is_operation.Statement.{statement}
+use Rattle.records.proofs.is_operation.Tie as tie
+
+returns : tie.Need-returns
+unfolding isOperation
+returns c = rw (eq-eqb (c .before .args .operation) 1 (c .if1 .taken))
+
+returns-2 : tie.Need-returns-2
+unfolding isOperation
+returns-2 c = rw (ne-eqb (c .before .args .operation) 1 (c .if1 .left))
+
+pub is-operation-spec : {M : Type 1} → statement M
+is-operation-spec = tie.close (tie.spec returns returns-2)

@@ -1,0 +1,94 @@
+-- `load_record` meets its contract. Assumes nothing.
+use borrow.Author.Needs.{needs}
+use mathlib.Core.Path.{sym}
+use native.Mathlib.Omega.{arith}
+use Rattle.lists.specs.Parts.{words}
+use Rattle.model.specs.RecordWords.{recordSize}
+use Rattle.laws.proofs.Records.{recordOf-parts}
+use Rattle.records.specs.Meaning.{recordIn}
+use Rattle.records.proofs.steps.load_record.Statement.{statement}
+use Rattle.records.proofs.steps.load_record.Tie as tie
+
+add-load-value : tie.Need-add-load-value
+unfolding recordSize
+add-load-value c = record { fits = omega arith }
+
+load-value-requires : tie.Need-load-value-requires
+unfolding recordSize
+load-value-requires c κs = omega arith
+
+add-load-matrix : tie.Need-add-load-matrix
+unfolding recordSize
+add-load-matrix c = record { fits = omega arith }
+
+load-matrix-requires : tie.Need-load-matrix-requires
+unfolding recordSize
+load-matrix-requires c κs = (omega arith, omega arith)
+
+mul-t6 : tie.Need-mul-t6
+mul-t6 c = search needs
+
+shared-slice-read-t8 : tie.Need-shared-slice-read-t8
+unfolding recordSize
+shared-slice-read-t8 c = omega arith
+
+add-t9 : tie.Need-add-t9
+unfolding recordSize
+add-t9 c = record { fits = omega arith }
+
+mul-t10 : tie.Need-mul-t10
+mul-t10 c = search needs
+
+shared-slice-read-t12 : tie.Need-shared-slice-read-t12
+unfolding recordSize
+shared-slice-read-t12 c = omega arith
+
+add-t13 : tie.Need-add-t13
+unfolding recordSize
+add-t13 c = record { fits = omega arith }
+
+mul-t14 : tie.Need-mul-t14
+mul-t14 c = search needs
+
+shared-slice-read-t16 : tie.Need-shared-slice-read-t16
+unfolding recordSize
+shared-slice-read-t16 c = omega arith
+
+add-t17 : tie.Need-add-t17
+unfolding recordSize
+add-t17 c = record { fits = omega arith }
+
+mul-t18 : tie.Need-mul-t18
+mul-t18 c = search needs
+
+shared-slice-read-t20 : tie.Need-shared-slice-read-t20
+unfolding recordSize
+shared-slice-read-t20 c = omega arith
+
+returns : tie.Need-returns
+unfolding recordIn
+returns c =
+    let a = c .before .before .before .before .before .before .before .args in
+    rw (c .before .before .before .before .before .load-value .ensures, c .before .before .before .before .load-matrix .ensures)
+    (sym (recordOf-parts (a .n) (words (a .t .now)) (a .at)))
+
+pub load-record-spec : {M : Type 1} → statement M
+load-record-spec =
+    tie.close
+    (tie.spec
+    add-load-value
+    load-value-requires
+    add-load-matrix
+    load-matrix-requires
+    mul-t6
+    shared-slice-read-t8
+    add-t9
+    mul-t10
+    shared-slice-read-t12
+    add-t13
+    mul-t14
+    shared-slice-read-t16
+    add-t17
+    mul-t18
+    shared-slice-read-t20
+    returns)

@@ -1,0 +1,79 @@
+-- `sound_record` meets its contract. Assumes nothing.
+use Prim.Native.Nat.{ℕ, _+_}
+use mathlib.Core.Path.{_≡_, refl, sym, _∙_}
+use borrow.Author.Tests.{le-leb, lt-leb}
+use Rattle.lists.specs.Parts.{words}
+use Rattle.model.specs.Table.{soundRecord}
+use Rattle.laws.proofs.Records.{recordOf-parts}
+use borrow.Author.Needs.{needs}
+use Rattle.records.proofs.steps.sound_record.Statement.{statement}
+use Rattle.records.proofs.steps.sound_record.Tie as tie
+
+mul-if1 : tie.Need-mul-if1
+mul-if1 c = search needs
+
+shared-slice-read-if1 : tie.Need-shared-slice-read-if1
+shared-slice-read-if1 c = search needs
+
+returns : tie.Need-returns
+unfolding soundRecord
+returns c =
+    let a = c .before .before .args in
+    let w = words (a .t .now) in
+    rw (recordOf-parts (a .n) w (a .at), lt-leb (w (a .at)) (a .n) (c .if1 .taken))
+
+add-if2 : tie.Need-add-if2
+add-if2 c = search needs
+
+mul-if2 : tie.Need-mul-if2
+mul-if2 c = search needs
+
+shared-slice-read-if2 : tie.Need-shared-slice-read-if2
+shared-slice-read-if2 c = search needs
+
+returns-2 : tie.Need-returns-2
+unfolding soundRecord
+returns-2 c =
+    let a = c .before .before .before .before .args in
+    let w = words (a .t .now) in
+    rw (
+      recordOf-parts (a .n) w (a .at),
+      le-leb (w (a .at)) (a .n) (c .before .before .if1 .left),
+      lt-leb (w (a .at + 1)) (a .n) (c .if2 .taken),
+    )
+
+add-result : tie.Need-add-result
+add-result c = search needs
+
+mul-result : tie.Need-mul-result
+mul-result c = search needs
+
+shared-slice-read-result : tie.Need-shared-slice-read-result
+shared-slice-read-result c = search needs
+
+returns-3 : tie.Need-returns-3
+unfolding soundRecord
+returns-3 c =
+    let a = c .before .before .before .before .before .args in
+    let w = words (a .t .now) in
+    rw (
+      recordOf-parts (a .n) w (a .at),
+      le-leb (w (a .at)) (a .n) (c .before .before .before .if1 .left),
+      le-leb (w (a .at + 1)) (a .n) (c .before .if2 .left),
+    )
+
+pub sound-record-spec : {M : Type 1} → statement M
+sound-record-spec =
+    tie.close
+    (tie.spec
+    mul-if1
+    shared-slice-read-if1
+    returns
+    add-if2
+    mul-if2
+    shared-slice-read-if2
+    returns-2
+    add-result
+    mul-result
+    shared-slice-read-result
+    returns-3)

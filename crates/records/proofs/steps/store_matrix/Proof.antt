@@ -1,0 +1,94 @@
+-- `store_matrix` meets its contract: j rows are stored. Assumes nothing.
+use borrow.Author.Needs.{needs}
+use Prim.Native.Nat.{_+_, _-_, _*_, _≤_}
+use mathlib.Core.Path.{_≡_, refl, sym, ap, _∙_}
+use native.Mathlib.Nat.{zero-mul}
+use native.Mathlib.Omega.{arith}
+use lib.ListN.{length}
+use Rattle.lists.specs.Functions.{pasted}
+use Rattle.lists.specs.Parts.{words}
+use Rattle.lists.proofs.Functions.{pasted-none}
+use Rattle.model.specs.RecordWords.{matrixWord}
+use Rattle.laws.proofs.Records.{square-small, row-within}
+use Rattle.rows.specs.Meaning.{matrixIn}
+use Rattle.records.proofs.Laws.{row-stored}
+use Rattle.records.proofs.steps.store_matrix.Statement.{statement}
+use Rattle.records.proofs.steps.store_matrix.Tie as tie
+
+abbrev Inv-loop : tie.InvT-loop
+Inv-loop t₀ at n matrix j₀ t j =
+    (j ≤ n) × ((length t ≡ length t₀) × (words t ≡ pasted at (j * n) (matrixWord n (matrixIn matrix)) (words t₀)))
+
+abbrev μ-loop : tie.MeasureT-loop
+μ-loop t₀ at n matrix j₀ t j = n - j
+
+loop-holds : tie.Need-loop-holds Inv-loop μ-loop
+loop-holds c = (search needs, (refl, rw zero-mul (sym (pasted-none _ _ _))))
+
+mul-store-row : tie.Need-mul-store-row Inv-loop μ-loop
+mul-store-row c =
+    let a = c .before .before .before .before .args in
+    record { fits = omega (arith, row-within (a .n) (c .before .before .loop .j) (omega arith), square-small (a .n) (omega arith)) }
+
+add-store-row : tie.Need-add-store-row Inv-loop μ-loop
+add-store-row c =
+    let a = c .before .before .before .before .args in
+    record { fits = omega (arith, row-within (a .n) (c .before .before .loop .j) (omega arith)) }
+
+mul-store-row-2 : tie.Need-mul-store-row-2 Inv-loop μ-loop
+mul-store-row-2 c = search needs
+
+array-copy-out-store-row : tie.Need-array-copy-out-store-row Inv-loop μ-loop
+array-copy-out-store-row c = search needs
+
+store-row-requires : tie.Need-store-row-requires Inv-loop μ-loop
+store-row-requires c κs =
+    let a = c .before .before .before .before .before .args in
+    (search needs, omega (arith, row-within (a .n) (c .before .before .before .loop .j) (omega arith)))
+
+add-j : tie.Need-add-j Inv-loop μ-loop
+add-j c = search needs
+
+loop-less : tie.Need-loop-less Inv-loop μ-loop
+loop-less c = search needs
+
+loop-again : tie.Need-loop-again Inv-loop μ-loop
+loop-again c =
+    let a = c .before .before .before .before .before .before .before .before .args in
+    let l = c .before .before .before .before .before .before .loop in (
+      search needs,
+      (
+        search needs,
+        c .before .before .store-row .ensures
+            ∙ ap (pasted (a .at + l .j * a .n) (a .n) _) (l .inv .1 .1)
+            ∙ row-stored (a .t4) (a .n) (l .j) (a .at) (words (a .t .now)) (omega arith) (omega arith),
+      ),
+    )
+
+same-length : tie.Need-same-length Inv-loop μ-loop
+same-length c = search needs
+
+returns : tie.Need-returns Inv-loop μ-loop
+returns c =
+    let a = c .before .before .before .args in
+    let l = c .before .loop in
+    let e : l .j ≡ a .n = omega arith in
+    rw e at (l .inv .1 .1)
+
+pub store-matrix-spec : {M : Type 1} → statement M
+store-matrix-spec =
+    tie.close
+    (tie.spec
+    Inv-loop
+    μ-loop
+    loop-holds
+    mul-store-row
+    add-store-row
+    mul-store-row-2
+    array-copy-out-store-row
+    store-row-requires
+    add-j
+    loop-less
+    loop-again
+    same-length
+    returns)
