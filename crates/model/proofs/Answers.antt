@@ -75,6 +75,10 @@ deliver-taken n phase crashed i h =
       notHalted = eqb-false phase 6 (neither-right (eqb phase 0) (eqb phase 6) p10);
     }
 
+pub crash-taken : (n phase crashed i : ℕ) → crashAnswer n phase crashed i ≡ 0 → inside n i ≡ true
+unfolding crashAnswer
+crash-taken n phase crashed i h = must (inside n i) (λ p. let z : _≡_ {A = ℕ} 4 0 = rw p at h in omega arith)
+
 -- the phase of a deliver that is answered 0
 pub by-phase {ℓ} : {B : Type ℓ} (p : ℕ) → (p ≡ 0 → ⊥) → p ≤ 5
     → (p ≡ 1 → B) → (p ≡ 2 → B) → (p ≡ 3 → B) → (p ≡ 4 → B) → (p ≡ 5 → B) → B

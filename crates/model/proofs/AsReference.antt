@@ -80,7 +80,7 @@ module _ (kind : Kind) where
 
   -- Each phase of a deliver, on the board and in the reference.
 
-  board-phase : (n : ℕ) (b : Board) (i p : ℕ) → b .members i .phase ≡ p
+  pub board-phase : (n : ℕ) (b : Board) (i p : ℕ) → b .members i .phase ≡ p
       → boardDelivered kind n b i ≡ cond (eqb p 1) (submitTaken b i) (cond (eqb p 2) (replyTaken n b i)
       (cond (eqb p 3) (commitTaken kind b i) (outcomeTaken b i (eqb p 4))))
   unfolding boardDelivered

@@ -12,5 +12,6 @@ pub mod Demand3
 pub mod RecordWords
 pub mod Table
 pub mod Halves
+pub mod TableCalls
 pub mod Published
 pub mod PublishedClaims

@@ -1,0 +1,58 @@
+-- The board's calls on a table of words, and runs of them: what the contracts of open, begin, deliver and crash cite, and what demand 3
+-- speaks of in the end. The board of a table is the one that its words decode to; word 0 is n.
+use Prim.Native.Nat.{ℕ, _+_}
+use mathlib.Core.Bool.{Bool, cond, not}
+use mathlib.Core.List.{List, [], _∷_}
+use mathlib.Core.Option.{Option, none}
+use lib.Dec.{eqb}
+use lib.ListN.{length}
+use Rattle.lists.specs.Functions.{inside, within}
+use Rattle.lists.specs.Parts.{words}
+use Rattle.model.specs.Records.{Value}
+use Rattle.model.specs.Kinds.{Kind}
+use Rattle.model.specs.Board.{Board, opened}
+use Rattle.model.specs.Runs.{Call, Seen, answerOf, done, doneReturns}
+use Rattle.model.specs.Table.{tableSize, blockAt, phaseAt, boardOf, tableWords, tableNumber}
+use Rattle.model.specs.Halves.{orElse, unlessRefused}
+
+-- "Opening makes checks 1 and 2 only, since it reads none of the old words."
+unfoldable pub openNumber : ℕ → List ℕ → ℕ
+openNumber n l =
+    cond (not (inside 12 n)) 1
+    (cond (not (eqb (length l) (tableSize n))) 2
+    0)
+
+unfoldable pub openWords : ℕ → List ℕ → List ℕ
+openWords n l = unlessRefused (openNumber n l) l (tableWords n (opened n))
+
+-- the board that a table holds
+unfoldable pub boardIn : List ℕ → Board
+boardIn l = boardOf (words l 0) (words l)
+
+-- begin, deliver and crash: the table's own numbers, then the call's
+unfoldable pub tableAnswer : Kind → List ℕ → Call → ℕ
+tableAnswer kind l call = orElse (tableNumber kind l) (answerOf kind (words l 0) (boardIn l) call)
+
+unfoldable pub tableAfter : Kind → List ℕ → Call → List ℕ
+tableAfter kind l call =
+    let n = words l 0 in
+    unlessRefused (tableAnswer kind l call) l (tableWords n (done kind n (boardIn l) call))
+
+unfoldable pub tableReturns : Kind → List ℕ → Call → Option Value
+tableReturns kind l call = cond (eqb (tableAnswer kind l call) 0) (doneReturns (boardIn l) call) none
+
+-- every member's phase, read off the words
+unfoldable pub phaseWords : List ℕ → ℕ → ℕ
+phaseWords l = let n = words l 0 in within n 0 (λ k. words l (blockAt n k + phaseAt))
+
+unfoldable pub tableSeen : Kind → List ℕ → Call → Seen
+tableSeen kind l call = record {
+  answer = tableAnswer kind l call;
+  phases = phaseWords (tableAfter kind l call);
+  returned = tableReturns kind l call;
+}
+
+-- each call on the table that the one before left
+unfoldable pub tableRun : Kind → List ℕ → List Call → List Seen
+tableRun kind l [] = []
+tableRun kind l (call ∷ calls) = tableSeen kind l call ∷ tableRun kind (tableAfter kind l call) calls

@@ -1,0 +1,414 @@
+-- Every call keeps the table's check true: whatever sound board it is made on, number 3 does not hold after it.
+-- Assumes nothing.
+use Prim.Native.Nat.{ℕ, _+_, _≤_, _<_}
+use native.Mathlib.Omega.{arith}
+use mathlib.Core.Path.{_≡_, refl, sym, ap, _∙_}
+use mathlib.Core.Bool.{Bool, true, false, cond, not, _&&_, _||_}
+use lib.Dec.{eqb, leb}
+use borrow.Author.Tests.{eqb-true, eqb-false, eq-eqb, le-leb, leb-true, not-true, not-false}
+use Rattle.lists.specs.Functions.{put, inside, within, each}
+use Rattle.lists.proofs.Functions.{on, both, first, second, apart, put-all, put-both, each-all, each-at, inside-low, inside-high, inside-in}
+use Rattle.model.specs.Records.{Value, Rec, read, write, opening, zeroRecord}
+use Rattle.model.specs.Kinds.{Kind, isOperation, barred, becomesStored}
+use Rattle.model.specs.Member.{Member, idle, moved, rested, begun, answered, haltNumber, ownRecord, passed, failed, replied, judged, completed, dropped, outcome, crashedOf}
+use Rattle.model.specs.Member.{check21, check22, check23, check24, check25, check26, check27}
+use Rattle.model.specs.Host.{Entry, submitted, wins, entryAfter, storedAfter}
+use Rattle.model.specs.Board.{Board, noEntry, openingEntry, opened, withMember, boardBegun, submitTaken, replyTaken, sentRecord, commitTaken, outcomeTaken, boardDelivered, boardCrashed}
+use Rattle.model.specs.Runs.{Call, begin, deliver, crash, answerOf, done}
+use Rattle.model.specs.Table.{soundRecord, soundOperation, soundMember, soundEntry, soundHost, soundBoard}
+use Rattle.model.proofs.Answers.{BeginTaken, begin-taken, deliver-taken, crash-taken, by-phase}
+use Rattle.model.proofs.AsReference.{board-phase}
+
+-- A record, a member and an entry in parts.
+
+pub record SoundRecord (n : ℕ) (r : Rec) : Type 0 where
+  pub member : r .member ≤ n
+  pub slot : r .slot ≤ n
+  pub operation : r .operation ≤ 2
+
+record-parts : {n : ℕ} {r : Rec} → soundRecord n r ≡ true → SoundRecord n r
+unfolding soundRecord
+record-parts {n} {r} h =
+    let a = leb (r .member) n in
+    let b = leb (r .slot) n in
+    let c = leb (r .operation) 2 in
+    let ab = first (a && b) c h in
+    record {
+      member = leb-true (r .member) n (first a b ab);
+      slot = leb-true (r .slot) n (second a b ab);
+      operation = leb-true (r .operation) 2 (second (a && b) c h);
+    }
+
+record-sound : {n : ℕ} {r : Rec} → SoundRecord n r → soundRecord n r ≡ true
+unfolding soundRecord
+record-sound {n} {r} s =
+    both (both (le-leb (r .member) n (s .member)) (le-leb (r .slot) n (s .slot))) (le-leb (r .operation) 2 (s .operation))
+
+-- the halt number is in range
+abbrev halts : ℕ → Bool
+halts h = eqb h 0 || leb 21 h && leb h 27
+
+-- a member in phase 1 to 5 has a slot, a type, and number 7 does not refuse them
+pub record Operates (kind : Kind) (i slot operation : ℕ) : Type 0 where
+  pub slotLeast : 1 ≤ slot
+  pub operationLeast : 1 ≤ operation
+  pub allowed : barred kind i slot operation ≡ false
+
+pub record SoundMember (kind : Kind) (n i p c h r t : ℕ) (one two : Rec) : Type 0 where
+  pub phase : p ≤ 6
+  pub crashed : c ≤ 1
+  pub halt : halts h ≡ true
+  pub slot : r ≤ n
+  pub operation : t ≤ 2
+  pub operates : inside 5 p ≡ true → Operates kind i r t
+  pub newest : soundRecord n one ≡ true
+  pub stored : soundRecord n two ≡ true
+
+abbrev Parts : Kind → ℕ → ℕ → Member → Type 0
+Parts kind n i m = SoundMember kind n i (m .phase) (m .crashed) (m .halt) (m .slot) (m .operation) (m .first) (m .second)
+
+operates-parts : (kind : Kind) (i : ℕ) (m : Member) → soundOperation kind i m ≡ true → inside 5 (m .phase) ≡ true
+    → Operates kind i (m .slot) (m .operation)
+unfolding soundOperation
+operates-parts kind i m h p =
+    let a = leb 1 (m .slot) in
+    let b = leb 1 (m .operation) in
+    let c = not (barred kind i (m .slot) (m .operation)) in
+    let all : (a && b && c) ≡ true = rw p at h in
+    let ab = first (a && b) c all in
+    record {
+      slotLeast = leb-true 1 (m .slot) (first a b ab);
+      operationLeast = leb-true 1 (m .operation) (second a b ab);
+      allowed = not-true (barred kind i (m .slot) (m .operation)) (second (a && b) c all);
+    }
+
+operates-sound : (kind : Kind) (i : ℕ) (m : Member) → (inside 5 (m .phase) ≡ true → Operates kind i (m .slot) (m .operation))
+    → soundOperation kind i m ≡ true
+unfolding soundOperation
+operates-sound kind i m h = on (inside 5 (m .phase))
+    (λ p. let o = h p in rw (p, le-leb 1 (m .slot) (o .slotLeast), le-leb 1 (m .operation) (o .operationLeast), o .allowed))
+    (λ p. rw p)
+
+member-parts : (kind : Kind) (n i : ℕ) (m : Member) → soundMember kind n i m ≡ true → Parts kind n i m
+unfolding soundMember
+member-parts kind n i m h =
+    let a = leb (m .phase) 6 in
+    let b = leb (m .crashed) 1 in
+    let c = halts (m .halt) in
+    let d = leb (m .slot) n in
+    let e = leb (m .operation) 2 in
+    let f = soundOperation kind i m in
+    let g = soundRecord n (m .first) in
+    let k = soundRecord n (m .second) in
+    let h7 = first (a && b && c && d && e && f && g) k h in
+    let h6 = first (a && b && c && d && e && f) g h7 in
+    let h5 = first (a && b && c && d && e) f h6 in
+    let h4 = first (a && b && c && d) e h5 in
+    let h3 = first (a && b && c) d h4 in
+    let h2 = first (a && b) c h3 in
+    record {
+      phase = leb-true (m .phase) 6 (first a b h2);
+      crashed = leb-true (m .crashed) 1 (second a b h2);
+      halt = second (a && b) c h3;
+      slot = leb-true (m .slot) n (second (a && b && c) d h4);
+      operation = leb-true (m .operation) 2 (second (a && b && c && d) e h5);
+      operates = operates-parts kind i m (second (a && b && c && d && e) f h6);
+      newest = second (a && b && c && d && e && f) g h7;
+      stored = second (a && b && c && d && e && f && g) k h;
+    }
+
+member-sound : (kind : Kind) (n i : ℕ) (m : Member) → Parts kind n i m → soundMember kind n i m ≡ true
+unfolding soundMember
+member-sound kind n i m s =
+    both (both (both (both (both (both (both (le-leb (m .phase) 6 (s .phase)) (le-leb (m .crashed) 1 (s .crashed))) (s .halt))
+    (le-leb (m .slot) n (s .slot))) (le-leb (m .operation) 2 (s .operation))) (operates-sound kind i m (s .operates))) (s .newest)) (s .stored)
+
+-- The member's steps.
+
+operation-small : (t : ℕ) → isOperation t ≡ true → (1 ≤ t) × (t ≤ 2)
+unfolding isOperation
+operation-small t h = on (eqb t read)
+    (λ e. let d : t ≡ 1 = eqb-true t read e in (omega arith, omega arith))
+    (λ e. let d : t ≡ 2 = eqb-true t write (rw e at h) in (omega arith, omega arith))
+
+begun-sound : (kind : Kind) (n i : ℕ) (m : Member) (r t : ℕ) (v : Value) → Parts kind n i m
+    → inside n r ≡ true → isOperation t ≡ true → barred kind i r t ≡ false → Parts kind n i (begun m r t v)
+unfolding begun
+begun-sound kind n i m r t v s p q b =
+    let o = operation-small t q in
+    record {
+      phase = omega arith;
+      crashed = s .crashed;
+      halt = s .halt;
+      slot = inside-high n r p;
+      operation = o .1;
+      operates = λ h. record { slotLeast = inside-low n r p; operationLeast = o .0; allowed = b };
+      newest = s .newest;
+      stored = s .stored;
+    }
+
+-- a step within an operation, to phase 2 to 5 or to a halt
+moved-sound : (kind : Kind) (n i : ℕ) (m : Member) (p h : ℕ) (one two : Rec) → Parts kind n i m → inside 5 (m .phase) ≡ true
+    → p ≤ 6 → halts h ≡ true → soundRecord n one ≡ true → soundRecord n two ≡ true → Parts kind n i (moved m p h one two)
+moved-sound kind n i m p h one two s running small number g k = record {
+  phase = small;
+  crashed = s .crashed;
+  halt = number;
+  slot = s .slot;
+  operation = s .operation;
+  operates = λ x. s .operates running;
+  newest = g;
+  stored = k;
+}
+
+zero-sound : (n : ℕ) → soundRecord n zeroRecord ≡ true
+unfolding soundRecord zeroRecord
+zero-sound n = both (both (le-leb 0 n (omega arith)) (le-leb 0 n (omega arith))) refl
+
+rested-sound : (kind : Kind) (n i : ℕ) (m : Member) (accepted : ℕ → ℕ) (last : Value) (known : ℕ → ℕ → ℕ) → Parts kind n i m
+    → Parts kind n i (rested m accepted last known)
+rested-sound kind n i m accepted last known s = record {
+  phase = omega arith;
+  crashed = s .crashed;
+  halt = s .halt;
+  slot = omega arith;
+  operation = omega arith;
+  operates = λ h. absurd (let z = inside-low 5 0 h in omega arith);
+  newest = zero-sound n;
+  stored = zero-sound n;
+}
+
+outcome-sound : (kind : Kind) (n i : ℕ) (m : Member) (won : Bool) → Parts kind n i m → Parts kind n i (outcome m won)
+unfolding outcome completed dropped
+outcome-sound kind n i m true s =
+    rested-sound kind n i m (put (m .accepted) (m .slot) (m .own (m .slot))) (cond (eqb (m .operation) write) (m .pending) (m .last)) (m .first .matrix) s
+outcome-sound kind n i m false s = rested-sound kind n i m (m .accepted) (m .last) (m .known) s
+
+crashed-sound : (kind : Kind) (n i : ℕ) (m : Member) → Parts kind n i m → Parts kind n i (crashedOf m)
+unfolding crashedOf
+crashed-sound kind n i m s = record {
+  phase = s .phase;
+  crashed = omega arith;
+  halt = s .halt;
+  slot = s .slot;
+  operation = s .operation;
+  operates = s .operates;
+  newest = s .newest;
+  stored = s .stored;
+}
+
+-- the number of a halt
+first-failing : (a b c d e f g : Bool) → halts (cond (not a) 21 (cond (not b) 22 (cond (not c) 23 (cond (not d) 24 (cond (not e) 25
+    (cond (not f) 26 (cond (not g) 27 0))))))) ≡ true
+first-failing false b c d e f g = refl
+first-failing true false c d e f g = refl
+first-failing true true false d e f g = refl
+first-failing true true true false e f g = refl
+first-failing true true true true false f g = refl
+first-failing true true true true true false g = refl
+first-failing true true true true true true false = refl
+first-failing true true true true true true true = refl
+
+halt-small : (n i : ℕ) (m : Member) (newest stored : Rec) (seals : ℕ) → halts (haltNumber n i m newest stored seals) ≡ true
+unfolding haltNumber
+halt-small n i m newest stored seals = first-failing (check21 seals)
+    (check22 n i (m .slot) (m .known) (newest .matrix)) (check23 i (m .slot) (m .accepted) (newest .matrix)) (check24 (m .slot) stored)
+    (check25 n (m .slot) (stored .matrix) (newest .matrix)) (check26 n (m .slot) (m .known) (newest .matrix))
+    (check27 n i (m .slot) (m .accepted) (newest .matrix))
+
+own-sound : (kind : Kind) (n i : ℕ) (m : Member) (newest : Rec) → Parts kind n i m → inside n i ≡ true → soundRecord n (ownRecord n i m newest) ≡ true
+unfolding ownRecord
+own-sound kind n i m newest s p = record-sound (record { member = inside-high n i p; slot = s .slot; operation = s .operation })
+
+replied-sound : (kind : Kind) (n i : ℕ) (m : Member) (newest stored : Rec) (seals : ℕ) → Parts kind n i m → inside 5 (m .phase) ≡ true
+    → inside n i ≡ true → soundRecord n stored ≡ true → Parts kind n i (replied n i m newest stored seals)
+unfolding replied passed failed
+replied-sound kind n i m newest stored seals s running p two = pick (passed n i m newest stored) (failed m number) (eqb number 0)
+    (moved-sound kind n i m 3 (m .halt) (ownRecord n i m newest) stored s running (omega arith) (s .halt) (own-sound kind n i m newest s p) two)
+    (moved-sound kind n i m 6 number zeroRecord zeroRecord s running (omega arith) (halt-small n i m newest stored seals) (zero-sound n) (zero-sound n))
+  where
+    number : ℕ
+    number = haltNumber n i m newest stored seals
+
+    pick : (a b : Member) (t : Bool) → Parts kind n i a → Parts kind n i b → Parts kind n i (cond t a b)
+    pick a b true x y = x
+    pick a b false x y = y
+
+-- The host.
+
+abbrev SoundSlot : ℕ → Entry → Rec → Type 0
+SoundSlot n e stored = (e .submitMember ≤ n) × (soundRecord n stored ≡ true) × (soundRecord n (e .newest) ≡ true)
+
+entry-parts : (n : ℕ) (e : Entry) (stored : Rec) → soundEntry n e stored ≡ true → SoundSlot n e stored
+unfolding soundEntry
+entry-parts n e stored h =
+    let a = leb (e .submitMember) n in
+    let b = soundRecord n stored in
+    let c = soundRecord n (e .newest) in
+    let ab = first (a && b) c h in
+    (leb-true (e .submitMember) n (first a b ab), second a b ab, second (a && b) c h)
+
+entry-sound : (n : ℕ) (e : Entry) (stored : Rec) → SoundSlot n e stored → soundEntry n e stored ≡ true
+unfolding soundEntry
+entry-sound n e stored s = both (both (le-leb (e .submitMember) n (s .0)) (s .1)) (s .2)
+
+-- The board in parts: every member's, every slot's.
+
+pub record SoundBoard (kind : Kind) (n : ℕ) (b : Board) : Type 0 where
+  pub members : (i : ℕ) → inside n i ≡ true → Parts kind n i (b .members i)
+  pub slots : (r : ℕ) → inside n r ≡ true → SoundSlot n (b .host r) (b .stored r)
+
+pub board-parts : (kind : Kind) (n : ℕ) (b : Board) → soundBoard kind n b ≡ true → SoundBoard kind n b
+unfolding soundBoard soundHost
+board-parts kind n b h =
+    let each-member = each n (λ i. soundMember kind n i (b .members i)) in
+    let each-slot = each n (λ r. soundEntry n (b .host r) (b .stored r)) in
+    record {
+      members = λ i p. member-parts kind n i (b .members i)
+          (each-at n (λ i. soundMember kind n i (b .members i)) (first each-member each-slot h) i (inside-low n i p) (inside-high n i p));
+      slots = λ r p. entry-parts n (b .host r) (b .stored r)
+          (each-at n (λ r. soundEntry n (b .host r) (b .stored r)) (second each-member each-slot h) r (inside-low n r p) (inside-high n r p));
+    }
+
+pub board-sound : (kind : Kind) (n : ℕ) (b : Board) → SoundBoard kind n b → soundBoard kind n b ≡ true
+unfolding soundBoard soundHost
+board-sound kind n b s = both
+    (each-all n (λ i. soundMember kind n i (b .members i)) (λ i p q. member-sound kind n i (b .members i) (s .members i (inside-in n i p q))))
+    (each-all n (λ r. soundEntry n (b .host r) (b .stored r)) (λ r p q. entry-sound n (b .host r) (b .stored r) (s .slots r (inside-in n r p q))))
+
+-- one member changed
+member-changed : (kind : Kind) (n : ℕ) (b : Board) (i : ℕ) (m : Member) → SoundBoard kind n b → Parts kind n i m
+    → SoundBoard kind n (withMember b i m)
+unfolding withMember
+member-changed kind n b i m s h = record {
+  members = put-all (λ k m. inside n k ≡ true → Parts kind n k m) (b .members) i m (λ p. h) (λ k d. s .members k);
+  slots = s .slots;
+}
+
+-- one member and one slot changed
+slot-changed : (kind : Kind) (n : ℕ) (b : Board) (i r : ℕ) (m : Member) (e : Entry) (stored : Rec) → SoundBoard kind n b → Parts kind n i m
+    → SoundSlot n e stored
+    → SoundBoard kind n (record { members = put (b .members) i m; host = put (b .host) r e; stored = put (b .stored) r stored })
+slot-changed kind n b i r m e stored s h g = record {
+  members = put-all (λ k m. inside n k ≡ true → Parts kind n k m) (b .members) i m (λ p. h) (λ k d. s .members k);
+  slots = put-both (λ k e stored. inside n k ≡ true → SoundSlot n e stored) (b .host) (b .stored) r e stored (λ p. g) (λ k d. s .slots k);
+}
+
+-- Deliver, phase by phase.
+
+module _ (kind : Kind) (n : ℕ) (b : Board) (s : SoundBoard kind n b) (i : ℕ) (p : inside n i ≡ true) where
+  mine : Parts kind n i (b .members i)
+  mine = s .members i p
+
+  -- an operation under way has a slot of the board
+  slot-in : inside 5 (b .members i .phase) ≡ true → inside n (b .members i .slot) ≡ true
+  slot-in h = inside-in n (b .members i .slot) (mine .operates h .slotLeast) (mine .slot)
+
+  submit-sound : b .members i .phase ≡ 1 → SoundBoard kind n (submitTaken b i)
+  unfolding submitTaken answered submitted
+  submit-sound e =
+      let running : inside 5 (b .members i .phase) ≡ true = inside-in 5 (b .members i .phase) (omega arith) (omega arith) in
+      let r = b .members i .slot in
+      let g = s .slots r (slot-in running) in
+      record {
+        members = put-all (λ k m. inside n k ≡ true → Parts kind n k m) (b .members) i (answered (b .members i) (b .host r .newest) (b .stored r))
+            (λ q. moved-sound kind n i (b .members i) 2 (b .members i .halt) (b .host r .newest) (b .stored r) mine running (omega arith) (mine .halt) (g .2) (g .1))
+            (λ k d. s .members k);
+        slots = put-all (λ k e. inside n k ≡ true → SoundSlot n e (b .stored k)) (b .host) r (submitted (b .host r) i (b .members i .own r))
+            (λ q. (inside-high n i p, g .1, g .2)) (λ k d. s .slots k);
+      }
+
+  reply-sound : b .members i .phase ≡ 2 → SoundBoard kind n (replyTaken n b i)
+  unfolding replyTaken
+  reply-sound e =
+      let m = b .members i in
+      member-changed kind n b i (replied n i m (m .first) (m .second) 3) s
+      (replied-sound kind n i m (m .first) (m .second) 3 mine (inside-in 5 (m .phase) (omega arith) (omega arith)) p (mine .stored))
+
+  sent-sound : soundRecord n (sentRecord i (b .members i)) ≡ true
+  unfolding sentRecord
+  sent-sound = record-sound (record { member = inside-high n i p; slot = mine .slot; operation = mine .operation })
+
+  commit-sound : b .members i .phase ≡ 3 → SoundBoard kind n (commitTaken kind b i)
+  unfolding commitTaken judged entryAfter storedAfter
+  commit-sound e =
+      let m = b .members i in
+      let r = m .slot in
+      let c = sentRecord i m in
+      let running : inside 5 (m .phase) ≡ true = inside-in 5 (m .phase) (omega arith) (omega arith) in
+      let g = s .slots r (slot-in running) in
+      slot-changed kind n b i r (judged m (wins (b .host r) c)) (entryAfter (b .host r) c) (storedAfter kind (b .host r) (b .stored r) c) s
+      (moved-sound kind n i m (cond (wins (b .host r) c) 4 5) (m .halt) (m .first) (m .second) mine running
+      (phases (wins (b .host r) c)) (mine .halt) (mine .newest) (mine .stored))
+      (entry-kept (wins (b .host r) c) g, stored-kept (wins (b .host r) c && becomesStored kind c) (g .1), newest-kept (wins (b .host r) c) (g .2))
+    where
+      phases : (t : Bool) → cond t 4 5 ≤ 6
+      phases true = omega arith
+      phases false = omega arith
+
+      entry : Entry
+      entry = b .host (b .members i .slot)
+
+      taken : Entry
+      taken = record { submitMember = 0; submitCount = 0; newest = sentRecord i (b .members i) }
+
+      entry-kept : (t : Bool) → SoundSlot n entry (b .stored (b .members i .slot)) → cond t taken entry .submitMember ≤ n
+      entry-kept true g = omega arith
+      entry-kept false g = g .0
+
+      stored-kept : (t : Bool) → soundRecord n (b .stored (b .members i .slot)) ≡ true
+          → soundRecord n (cond t (sentRecord i (b .members i)) (b .stored (b .members i .slot))) ≡ true
+      stored-kept true g = sent-sound
+      stored-kept false g = g
+
+      newest-kept : (t : Bool) → soundRecord n (entry .newest) ≡ true → soundRecord n (cond t taken entry .newest) ≡ true
+      newest-kept true g = sent-sound
+      newest-kept false g = g
+
+  outcome-kept : (won : Bool) → SoundBoard kind n (outcomeTaken b i won)
+  unfolding outcomeTaken
+  outcome-kept won = member-changed kind n b i (outcome (b .members i) won) s (outcome-sound kind n i (b .members i) won mine)
+
+  deliver-sound : (b .members i .phase ≡ 0 → ⊥) → (b .members i .phase ≡ 6 → ⊥) → SoundBoard kind n (boardDelivered kind n b i)
+  deliver-sound z six = by-phase (b .members i .phase) z (let h = mine .phase in omega arith)
+      (λ e. rw (board-phase kind n b i 1 e) (submit-sound e))
+      (λ e. rw (board-phase kind n b i 2 e) (reply-sound e))
+      (λ e. rw (board-phase kind n b i 3 e) (commit-sound e))
+      (λ e. rw (board-phase kind n b i 4 e) (outcome-kept true))
+      (λ e. rw (board-phase kind n b i 5 e) (outcome-kept false))
+
+-- Every call.
+pub done-sound : (kind : Kind) (n : ℕ) (b : Board) (call : Call) → SoundBoard kind n b → answerOf kind n b call ≡ 0
+    → SoundBoard kind n (done kind n b call)
+unfolding answerOf done boardBegun boardCrashed
+done-sound kind n b (begin i r t v) s h =
+    let m = b .members i in
+    let k = begin-taken kind n (m .phase) (m .crashed) (m .own r) i r t h in
+    member-changed kind n b i (begun m r t v) s (begun-sound kind n i m r t v (s .members i (k .member)) (k .slot) (k .operation) (k .allowed))
+done-sound kind n b (deliver i) s h =
+    let m = b .members i in
+    let k = deliver-taken n (m .phase) (m .crashed) i h in
+    deliver-sound kind n b s i (k .member) (k .notIdle) (k .notHalted)
+done-sound kind n b (crash i) s h =
+    let m = b .members i in
+    member-changed kind n b i (crashedOf m) s (crashed-sound kind n i m (s .members i (crash-taken n (m .phase) (m .crashed) i h)))
+
+-- The opening.
+pub opened-sound : (kind : Kind) (n : ℕ) → SoundBoard kind n (opened n)
+unfolding opened idle within noEntry openingEntry opening zeroRecord soundRecord
+opened-sound kind n = record {
+  members = λ i p. record {
+    phase = omega arith;
+    crashed = omega arith;
+    halt = refl;
+    slot = omega arith;
+    operation = omega arith;
+    operates = λ h. absurd (let z = inside-low 5 0 h in omega arith);
+    newest = zero-sound n;
+    stored = zero-sound n;
+  };
+  slots = λ r p. rw p (omega arith, opened-record r (inside-high n r p), opened-record r (inside-high n r p));
+}
+  where
+    opened-record : (r : ℕ) → r ≤ n → (leb r n && leb r n && leb 2 2) ≡ true
+    opened-record r h = both (both (le-leb r n h) (le-leb r n h)) refl
