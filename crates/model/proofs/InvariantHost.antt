@@ -16,6 +16,7 @@ use Rattle.model.specs.Host.{Entry, submitted, wins, entryAfter, storedA
 use Rattle.model.specs.Board.{Board, submitTaken, sentRecord, commitTaken}
 use Rattle.model.specs.Reference.{Operation, RefMember, Reference, changed, refMoved, refOvertaken, submittedOn, refSubmit, refAccepted, operationOf, refAccept}
 use Rattle.model.proofs.Order.{_≼_, Ordered, up, down, ≼-refl, ≼-trans}
+use Rattle.model.proofs.InvariantMember.{stepped}
 use Rattle.model.proofs.Invariant.{Tops, Grown, was, isNew, SlotInv, countOn, marked, Running, Replied, Current, Committed, Extends, Accepted, MemberInv, Inv}
 
 -- Another member while a slot's entry changes: only whether its own operation is overtaken may have changed. `over` is what the
@@ -96,32 +97,21 @@ module _ {n : ℕ} {b : Board} {ref : Reference} (inv : Inv n b ref) (i : ℕ) (
       let old = inv .members i in
       let run = old .running (omega arith) in
       let slot = inv .slots (m₁ .slot) in
-      record {
-        phase = refl;
-        crashed = old .crashed;
-        own = old .own;
-        slot = old .slot;
-        operation = old .operation;
-        value = old .value;
-        fine = omega arith;
-        order = old .order;
-        knownTops = old .knownTops;
-        running = λ h. run;
-        fresh = λ p. absurd (omega arith);
-        mark = λ g h. old .fresh e ∙ rw (eq-eqb i i refl, eq-eqb (m₁ .own r₁) (m₁ .own r₁) refl);
-        replied = λ p. record {
-          firstTops = inv .newest r₁;
-          knownBelow = inv .top r₁ (m₁ .known r₁) (old .knownTops r₁);
-          ownEntry = inv .counts r₁ i ∙ rw e refl;
-          secondMember = slot .storedMember (run .slotIn);
-          secondBelow = slot .storedBelow;
-          secondSame = slot .storedSame;
-        };
-        current = λ p o. record { isNewest = refl; isStored = refl };
-        committed = λ p. absurd (omega arith);
-        extends = λ p. absurd (omega arith);
-        accepted = λ p. absurd (omega arith);
-      }
+      stepped 2 (m₁ .halt) (b .host r₁ .newest) (b .stored r₁) (ref .members i .noted) entry₁ (b .stored r₁) (λ j a p. p) old
+      (omega arith) (omega arith) (omega arith)
+      (λ q. old .fresh e ∙ rw (eq-eqb i i refl, eq-eqb (m₁ .own r₁) (m₁ .own r₁) refl))
+      (λ q. record {
+        firstTops = inv .newest r₁;
+        knownBelow = inv .top r₁ (m₁ .known r₁) (old .knownTops r₁);
+        ownEntry = inv .counts r₁ i ∙ rw e refl;
+        secondMember = slot .storedMember (run .slotIn);
+        secondBelow = slot .storedBelow;
+        secondSame = slot .storedSame;
+      })
+      (λ q o. record { isNewest = refl; isStored = refl })
+      (λ q. absurd (omega arith))
+      (λ q. absurd (omega arith))
+      (λ q. absurd (omega arith))
 
   submit-other : (k : ℕ) → (k ≡ i → ⊥)
       → MemberInv (inv .P) n k (b .members k)
@@ -253,28 +243,17 @@ module _ {n : ℕ} {b : Board} {ref : Reference} (inv : Inv n b ref) (i : ℕ) (
   accept-self : (v : Value) → ref .values r₃ ≡ v → (e′ : Entry) (s′ : Rec)
       → MemberInv Q₃ n i (judged m₃ true) (refAccepted (ref .members i) v) e′ s′
   unfolding judged refAccepted
-  accept-self v h e′ s′ = record {
-    phase = refl;
-    crashed = old₃ .crashed;
-    own = old₃ .own;
-    slot = old₃ .slot;
-    operation = old₃ .operation;
-    value = old₃ .value;
-    fine = omega arith;
-    order = old₃ .order;
-    knownTops = λ j. was (old₃ .knownTops j);
-    running = λ g. run₃;
-    fresh = λ p. absurd (omega arith);
-    mark = λ g p. absurd (omega arith);
-    replied = λ p. absurd (omega arith);
-    current = λ p. absurd (omega arith);
-    committed = λ p. absurd (omega arith);
-    extends = λ p. absurd (omega arith);
-    accepted = λ p. record {
-      allTops = all-tops;
-      readNoted = λ q. ap (λ c. c .value) (extension .isStored) ∙ inv .slots r₃ .storedValue ∙ h;
-    };
-  }
+  accept-self v h e′ s′ =
+      stepped 4 (m₃ .halt) (m₃ .first) (m₃ .second) v e′ s′ (λ j a p. was p) old₃ (omega arith) (omega arith) (omega arith)
+      (λ q. absurd (omega arith))
+      (λ q. absurd (omega arith))
+      (λ q. absurd (omega arith))
+      (λ q. absurd (omega arith))
+      (λ q. absurd (omega arith))
+      (λ q. record {
+        allTops = all-tops;
+        readNoted = λ o. ap (λ c. c .value) (extension .isStored) ∙ inv .slots r₃ .storedValue ∙ h;
+      })
 
   -- whoever else is on the slot was overtaken by the winner
   accept-other : (s : Rec) (k : ℕ) → (k ≡ i → ⊥)

@@ -13,11 +13,11 @@ use Rattle.model.specs.Rows.{Row, Matrix, larger, comparable}
 use Rattle.model.specs.Records.{Value, Rec, read, write}
 use Rattle.model.specs.Kinds.{Kind, barred}
 use Rattle.model.specs.Member
-use Rattle.model.specs.Member.{Member, begun, replied, passed, ownRecord, joined, haltNumber, completed, dropped, crashedOf, judged, rested}
+use Rattle.model.specs.Member.{Member, begun, replied, passed, ownRecord, joined, haltNumber, completed, dropped, crashedOf, judged, moved, rested}
 use Rattle.model.specs.Member.{check21, check22, check23, check24, check25, check26, check27}
 use Rattle.model.specs.Host.{Entry}
 use Rattle.model.specs.Board.{Board, withMember, boardBegun, replyTaken, outcomeTaken, boardCrashed}
-use Rattle.model.specs.Reference.{RefMember, Reference, refBegun, refMoved, refMarked, refAbort, refEnded, refWith}
+use Rattle.model.specs.Reference.{RefMember, Reference, changed, refBegun, refMoved, refMarked, refAbort, refEnded, refWith}
 use Rattle.model.proofs.Rows.{larger-either}
 use Rattle.model.proofs.Order.{_≼_, Ordered, ≼-refl, ≼-raised, ≼-matrixBelow, ordered-comparable, larger-above}
 use Rattle.model.proofs.Answers.{BeginTaken}
@@ -39,6 +39,36 @@ touched {n} {b} {ref} inv i m f h c = record {
       (inv .counts k i ∙ sym (c k)) (λ j d. inv .counts k j);
   members = put-both (λ k m f. MemberInv (inv .P) n k m f (b .host (m .slot)) (b .stored (m .slot))) (b .members) (ref .members) i m f
       h (λ k d. inv .members k);
+}
+
+-- A step within an operation, to phase p: what the phase asks is given, the rest is as it was.
+pub stepped : {P Q : Tops} {n i : ℕ} {m : Member} {f : RefMember} {e : Entry} {s : Rec} (p h : ℕ) (one two : Rec) (noted : Value) (e′ : Entry) (s′ : Rec)
+    → ((j : ℕ) (a : Row) → P j a → Q j a) → MemberInv P n i m f e s → 1 ≤ m .phase → 2 ≤ p → p ≤ 5
+    → (p ≤ 3 → f .overtaken ≡ not (marked e′ i (m .own (m .slot))))
+    → (p ≡ 2 → Replied Q i (m .slot) (m .accepted) (m .known) one two)
+    → (p ≡ 2 → f .overtaken ≡ false → Current one two e′ s′)
+    → (p ≡ 3 → Committed Q (m .slot) (m .pending) one)
+    → (p ≡ 3 → f .overtaken ≡ false → Extends i (m .slot) (m .own (m .slot)) one two e′ s′)
+    → (p ≡ 4 → Accepted Q (m .operation) one two noted)
+    → MemberInv Q n i (moved m p h one two) (changed f p (f .crashed) (f .overtaken) noted) e′ s′
+stepped p h one two noted e′ s′ grow old running low high mark replied current committed extends accepted = record {
+  phase = refl;
+  crashed = old .crashed;
+  own = old .own;
+  slot = old .slot;
+  operation = old .operation;
+  value = old .value;
+  fine = high;
+  order = old .order;
+  knownTops = λ j. grow j _ (old .knownTops j);
+  running = λ g. old .running running;
+  fresh = λ q. absurd (omega arith);
+  mark = λ g. mark;
+  replied = replied;
+  current = current;
+  committed = committed;
+  extends = extends;
+  accepted = accepted;
 }
 
 -- Begin.
@@ -151,29 +181,17 @@ pub reply-keeps : {n : ℕ} {b : Board} {ref : Reference} (inv : Inv n b ref) (i
 unfolding replyTaken replied passed ownRecord joined refMoved
 reply-keeps {n} {b} {ref} inv i e = rw (checks-pass inv i e)
     (touched inv i (passed n i m (m .first) (m .second)) (refMoved (ref .members i) 3)
-    (record {
-      phase = refl;
-      crashed = old .crashed;
-      own = old .own;
-      slot = old .slot;
-      operation = old .operation;
-      value = old .value;
-      fine = omega arith;
-      order = old .order;
-      knownTops = old .knownTops;
-      running = λ h. old .running (omega arith);
-      fresh = λ e. absurd (omega arith);
-      mark = λ g h. old .mark (omega arith) (omega arith);
-      replied = λ e. absurd (omega arith);
-      current = λ e. absurd (omega arith);
-      committed = λ _. record { otherTops = others; ownValue = refl };
-      extends = λ _ o. record {
-        above = λ j. rw (← old .current e o .isNewest) (raises j);
-        row = rw (eq-eqb r r refl) (ap (λ c. put (c .matrix r) i (m .own r)) (old .current e o .isNewest));
-        isStored = old .current e o .isStored;
-      };
-      accepted = λ e. absurd (omega arith);
+    (stepped 3 (m .halt) (ownRecord n i m (m .first)) (m .second) (ref .members i .noted) _ _ (λ j a p. p) old (omega arith) (omega arith) (omega arith)
+    (λ q. old .mark (omega arith) (omega arith))
+    (λ q. absurd (omega arith))
+    (λ q. absurd (omega arith))
+    (λ q. record { otherTops = others; ownValue = refl })
+    (λ q o. record {
+      above = λ j. rw (← old .current e o .isNewest) (raises j);
+      row = rw (eq-eqb r r refl) (ap (λ c. put (c .matrix r) i (m .own r)) (old .current e o .isNewest));
+      isStored = old .current e o .isStored;
     })
+    (λ q. absurd (omega arith)))
     (λ k. rw e refl))
   where
     m : Member
@@ -211,25 +229,13 @@ abort-keeps {n} {b} {ref} inv i e =
     let m = b .members i in
     let old = inv .members i in
     touched inv i (judged m false) (refMoved (ref .members i) 5)
-    (record {
-      phase = refl;
-      crashed = old .crashed;
-      own = old .own;
-      slot = old .slot;
-      operation = old .operation;
-      value = old .value;
-      fine = omega arith;
-      order = old .order;
-      knownTops = old .knownTops;
-      running = λ h. old .running (omega arith);
-      fresh = λ p. absurd (omega arith);
-      mark = λ g h. absurd (omega arith);
-      replied = λ p. absurd (omega arith);
-      current = λ p. absurd (omega arith);
-      committed = λ p. absurd (omega arith);
-      extends = λ p. absurd (omega arith);
-      accepted = λ p. absurd (omega arith);
-    })
+    (stepped 5 (m .halt) (m .first) (m .second) (ref .members i .noted) _ _ (λ j a p. p) old (omega arith) (omega arith) (omega arith)
+    (λ q. absurd (omega arith))
+    (λ q. absurd (omega arith))
+    (λ q. absurd (omega arith))
+    (λ q. absurd (omega arith))
+    (λ q. absurd (omega arith))
+    (λ q. absurd (omega arith)))
     (λ k. rw e refl)
 
 -- A member at rest, whatever it took over: it has no operation that the host could hold against it.
