@@ -200,7 +200,7 @@ row-zero : (n : ℕ) → rowOf n (λ i. 0) ≡ zeroRow
 unfolding rowOf zeroRow
 row-zero n = numbered-blank n 0
 
-value-zero : valueOf (λ i. 0) ≡ zeroValue
+pub value-zero : valueOf (λ i. 0) ≡ zeroValue
 unfolding valueOf zeroValue
 value-zero = numbered-blank 8 0
 
@@ -208,11 +208,11 @@ matrix-zero : (n : ℕ) → matrixOf n (λ i. 0) ≡ zeroMatrix
 unfolding matrixOf zeroMatrix from
 matrix-zero n = ap (λ r. numbered n zeroRow (λ j. r)) (row-zero n) ∙ numbered-blank n zeroRow
 
-record-zero : (n : ℕ) → recordOf n (λ i. 0) ≡ zeroRecord
+pub record-zero : (n : ℕ) → recordOf n (λ i. 0) ≡ zeroRecord
 unfolding recordOf zeroRecord from
 record-zero n = λ t. record { member = 0; slot = 0; operation = 0; count = 0; value = value-zero t; matrix = matrix-zero n t }
 
-member-zero : (n : ℕ) → memberOf n (λ i. 0) ≡ idle
+pub member-zero : (n : ℕ) → memberOf n (λ i. 0) ≡ idle
 unfolding memberOf idle zeroRow from
 member-zero n = λ t. record {
   phase = 0;

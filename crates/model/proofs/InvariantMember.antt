@@ -13,7 +13,7 @@ use Rattle.model.specs.Rows.{Row, Matrix, larger, comparable}
 use Rattle.model.specs.Records.{Value, Rec, read, write}
 use Rattle.model.specs.Kinds.{Kind, barred}
 use Rattle.model.specs.Member
-use Rattle.model.specs.Member.{Member, begun, replied, passed, ownRecord, joined, haltNumber, completed, dropped, crashedOf, judged, moved, rested}
+use Rattle.model.specs.Member.{Member, begun, replied, passed, ownRecord, joined, haltNumber, completed, dropped, crashedOf, judged, moved, tookOver}
 use Rattle.model.specs.Member.{check21, check22, check23, check24, check25, check26, check27}
 use Rattle.model.specs.Host.{Entry}
 use Rattle.model.specs.Board.{Board, withMember, boardBegun, replyTaken, outcomeTaken, boardCrashed}
@@ -239,11 +239,11 @@ abort-keeps {n} {b} {ref} inv i e =
     (λ k. rw e refl)
 
 -- A member at rest, whatever it took over: it has no operation that the host could hold against it.
-at-rest : (P : Tops) (n i : ℕ) (m : Member) (f : RefMember) (accepted : ℕ → ℕ) (last : Value) (known : Matrix) (e : Entry) (stored : Rec)
-    → m .crashed ≡ f .crashed → ((r : ℕ) → m .own r ≡ f .begins r) → ((r : ℕ) → accepted r ≤ m .own r) → ((j : ℕ) → P j (known j))
-    → MemberInv P n i (rested m accepted last known) (refEnded f) e stored
-unfolding refEnded
-at-rest P n i m f accepted last known e stored up own order tops = record {
+at-rest : (P : Tops) (n i : ℕ) (m : Member) (f : RefMember) (e : Entry) (stored : Rec)
+    → m .crashed ≡ f .crashed → ((r : ℕ) → m .own r ≡ f .begins r) → ((r : ℕ) → m .accepted r ≤ m .own r) → ((j : ℕ) → P j (m .known j))
+    → MemberInv P n i (dropped m) (refEnded f) e stored
+unfolding refEnded dropped
+at-rest P n i m f e stored up own order tops = record {
   phase = refl;
   crashed = up;
   own = own;
@@ -265,12 +265,12 @@ at-rest P n i m f accepted last known e stored up own order tops = record {
 
 pub completed-keeps : {n : ℕ} {b : Board} {ref : Reference} (inv : Inv n b ref) (i : ℕ) → b .members i .phase ≡ 4
     → Inv n (withMember b i (completed (b .members i))) (refWith ref i (refEnded (ref .members i)))
-unfolding completed
+unfolding completed dropped tookOver
 completed-keeps {n} {b} {ref} inv i e =
     let m = b .members i in
     let old = inv .members i in
     touched inv i (completed m) (refEnded (ref .members i))
-    (at-rest (inv .P) n i m (ref .members i) _ _ _ _ _ (old .crashed) (old .own)
+    (at-rest (inv .P) n i (tookOver m) (ref .members i) _ _ (old .crashed) (old .own)
     (put-all (λ k c. c ≤ m .own k) (m .accepted) (m .slot) (m .own (m .slot)) (le-refl (m .own (m .slot))) (λ k d. old .order k))
     (old .accepted e .allTops))
     (λ k. on (eqb k (m .slot))
@@ -286,7 +286,7 @@ dropped-keeps {n} {b} {ref} inv i e =
     let m = b .members i in
     let old = inv .members i in
     touched inv i (dropped m) (refEnded (ref .members i))
-    (at-rest (inv .P) n i m (ref .members i) _ _ _ _ _ (old .crashed) (old .own) (old .order) (old .knownTops))
+    (at-rest (inv .P) n i m (ref .members i) _ _ (old .crashed) (old .own) (old .order) (old .knownTops))
     (λ k. rw e refl)
 
 -- A crash.

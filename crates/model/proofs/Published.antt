@@ -28,6 +28,7 @@ use Rattle.model.specs.Member.{
   passed,
   judged,
   completed,
+  tookOver,
   dropped,
   returnedBy,
 }
@@ -149,7 +150,7 @@ same-sent n i m newest stored = same-op n i m newest stored
 
 same-accepted : (m : Member)
     → variables (completed m) (m .pending) ≡ afterOkWrites (m .operation) (m .slot) (m .first) (working m)
-unfolding working variables completed afterOkWrites line321 line326 line327 line327writes
+unfolding working variables completed dropped tookOver afterOkWrites line321 line326 line327 line327writes
 same-accepted m = on (eqb (m .operation) write) (λ p. rw p) (λ p. rw p)
 
 same-return : (m : Member) (won : Bool) → returnedBy m won ≡ cond won (line328 (m .operation) (m .second)) none
@@ -162,7 +163,7 @@ same-whole : (n i : ℕ) (m : Member) (r t : ℕ) (v : Value) (newest stored : R
     → let c = line316 t v (line33 r (resting m)) in
     resting (completed (judged (passed n i (answered (begun m r t v) newest stored) newest stored) true))
     ≡ afterOk r (opOf n i t r c newest) c
-unfolding resting variables begun answered passed ownRecord judged completed line316 line33 afterOk line321 line326 line327 opOf line319
+unfolding resting variables begun answered passed ownRecord judged completed dropped tookOver line316 line33 afterOk line321 line326 line327 opOf line319
 same-whole n i m r t v newest stored =
     let matrices = same-matrix n i r (line316 t v (line33 r (resting m))) newest in
     on (eqb t write) (λ p. rw (matrices, p)) (λ p. rw (matrices, p))

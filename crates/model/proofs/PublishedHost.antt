@@ -24,6 +24,7 @@ use Rattle.model.specs.Member.{
   judged,
   outcome,
   completed,
+  tookOver,
   dropped,
   crashedOf,
 }
@@ -388,7 +389,7 @@ module _ (kind : Kind) (n : ℕ) (b : Board) (s : Server) (h : Beside n b s) whe
 
     -- phases 4 and 5, the outcome: the member is at rest
     outcome-beside : (won : Bool) → Beside n (outcomeTaken b i won) s
-    unfolding outcomeTaken outcome completed dropped
+    unfolding outcomeTaken outcome completed tookOver dropped
     outcome-beside won =
         let f = h .members i in
         one-member h i (outcome (b .members i) won)

@@ -63,23 +63,6 @@ moved m phase halt first second = record {
   second = second;
 }
 
--- the end of an operation: "Phase 0; slot, type, pending sheet and messages zeroed", with what is taken over from it
-abbrev pub rested : Member → (ℕ → ℕ) → Value → Matrix → Member
-rested m accepted last known = record {
-  phase = 0;
-  crashed = m .crashed;
-  halt = m .halt;
-  slot = 0;
-  operation = 0;
-  own = m .own;
-  accepted = accepted;
-  last = last;
-  pending = zeroValue;
-  known = known;
-  first = zeroRecord;
-  second = zeroRecord;
-}
-
 -- Begin (3.1 to 3.5, 3.16): "the slot's own count rises by one; slot and type are noted; pending sheet is the given one for a write,
 -- the last accepted own sheet for a read; phase 1."
 unfoldable pub begun : Member → ℕ → ℕ → Value → Member
@@ -178,15 +161,49 @@ replied n i m newest stored seals =
 unfoldable pub judged : Member → Bool → Member
 judged m won = moved m (cond won 4 5) (m .halt) (m .first) (m .second)
 
--- Taking the outcome accepted (3.20, 3.21, 3.25 to 3.27): "the known matrix becomes the record's, the accepted count the own count,
--- for a write the last own sheet the pending one."
-unfoldable pub completed : Member → Member
-completed m = rested m (put (m .accepted) (m .slot) (m .own (m .slot))) (cond (eqb (m .operation) write) (m .pending) (m .last)) (m .first .matrix)
+-- the end of an operation: "Phase 0; slot, type, pending sheet and messages zeroed", and the matrix that is known then
+abbrev pub rested : Member → Matrix → Member
+rested m known = record {
+  phase = 0;
+  crashed = m .crashed;
+  halt = m .halt;
+  slot = 0;
+  operation = 0;
+  own = m .own;
+  accepted = m .accepted;
+  last = m .last;
+  pending = zeroValue;
+  known = known;
+  first = zeroRecord;
+  second = zeroRecord;
+}
 
--- Taking the outcome aborted (3.22 to 3.24): "as 4's zeroing, phase 0, and nothing else." Amendment 1: line 3.21 takes over the matrix
--- of an aborted operation too; here only an accepted one's is taken over.
+-- Taking the outcome aborted (3.22 to 3.24): "as 4's zeroing, phase 0, and nothing else." Amendment 1: line 3.21 takes over the matrix of an
+-- aborted operation too; here only an accepted one's is taken over.
 unfoldable pub dropped : Member → Member
-dropped m = rested m (m .accepted) (m .last) (m .known)
+dropped m = rested m (m .known)
+
+-- what an accepted operation leaves the member (3.21, 3.26, 3.27): "the known matrix becomes the record's, the accepted count the own
+-- count, for a write the last own sheet the pending one."
+unfoldable pub tookOver : Member → Member
+tookOver m = record {
+  phase = m .phase;
+  crashed = m .crashed;
+  halt = m .halt;
+  slot = m .slot;
+  operation = m .operation;
+  own = m .own;
+  accepted = put (m .accepted) (m .slot) (m .own (m .slot));
+  last = cond (eqb (m .operation) write) (m .pending) (m .last);
+  pending = m .pending;
+  known = m .first .matrix;
+  first = m .first;
+  second = m .second;
+}
+
+-- Taking the outcome accepted (3.20, 3.25): that, and the same zeroing.
+unfoldable pub completed : Member → Member
+completed m = dropped (tookOver m)
 
 unfoldable pub outcome : Member → Bool → Member
 outcome m won = cond won (completed m) (dropped m)

@@ -15,7 +15,7 @@ use Rattle.model.specs.Rows.{zeroRow, zeroMatrix, below, matrixBelow, comparabl
 use Rattle.model.specs.Records.{zeroValue, opening}
 use Rattle.model.specs.Kinds.{isOperation, barred, becomesStored}
 use Rattle.model.specs.Numbers.{beginAnswer, deliverAnswer, crashAnswer}
-use Rattle.model.specs.Member.{idle, begun, answered, check21, check22, check23, check24, check25, check26, check27, haltNumber, joined, ownRecord, passed, failed, replied, judged, completed, dropped, outcome, returnedBy, crashedOf}
+use Rattle.model.specs.Member.{idle, begun, answered, check21, check22, check23, check24, check25, check26, check27, haltNumber, joined, ownRecord, passed, failed, replied, judged, completed, tookOver, dropped, outcome, returnedBy, crashedOf}
 use Rattle.model.specs.Host.{submitted, wins, entryAfter, storedAfter}
 use Rattle.model.specs.Board.{openingEntry, opened, withMember, boardBegun, submitTaken, replyTaken, sentRecord, commitTaken, outcomeTaken, boardDelivered, boardReturned, boardCrashed}
 use Rattle.model.specs.Runs.{answerOf, done, doneReturns, after, seenAt, run}
@@ -26,7 +26,7 @@ use Rattle.runs.specs.Cases.{cases, example}
 pub all-pass : every holds cases ≡ true
 unfolding put within inside each tabulate zeroRow zeroMatrix below matrixBelow comparable larger zeroValue opening isOperation
     barred becomesStored beginAnswer deliverAnswer crashAnswer idle begun answered check21 check22 check23 check24 check25 check26
-    check27 haltNumber joined ownRecord passed failed replied judged completed dropped outcome returnedBy crashedOf submitted wins
+    check27 haltNumber joined ownRecord passed failed replied judged completed tookOver dropped outcome returnedBy crashedOf submitted wins
     entryAfter storedAfter openingEntry opened withMember boardBegun submitTaken replyTaken sentRecord commitTaken outcomeTaken
     boardDelivered boardReturned boardCrashed answerOf done doneReturns after seenAt run left caller lastWord line printed rowsOf
     recordLine unless failingOf takingOf found every alike holds

@@ -10,7 +10,7 @@ use Rattle.lists.specs.Functions.{put, inside, within, each}
 use Rattle.lists.proofs.Functions.{on, both, first, second, apart, put-all, put-both, each-all, each-at, inside-low, inside-high, inside-in}
 use Rattle.model.specs.Records.{Value, Rec, read, write, opening, zeroRecord}
 use Rattle.model.specs.Kinds.{Kind, isOperation, barred, becomesStored}
-use Rattle.model.specs.Member.{Member, idle, moved, rested, begun, answered, haltNumber, ownRecord, passed, failed, replied, judged, completed, dropped, outcome, crashedOf}
+use Rattle.model.specs.Member.{Member, idle, moved, tookOver, begun, answered, haltNumber, ownRecord, passed, failed, replied, judged, completed, dropped, outcome, crashedOf}
 use Rattle.model.specs.Member.{check21, check22, check23, check24, check25, check26, check27}
 use Rattle.model.specs.Host.{Entry, submitted, wins, entryAfter, storedAfter}
 use Rattle.model.specs.Board.{Board, noEntry, openingEntry, opened, withMember, boardBegun, submitTaken, replyTaken, sentRecord, commitTaken, outcomeTaken, boardDelivered, boardCrashed}
@@ -165,9 +165,9 @@ zero-sound : (n : ℕ) → soundRecord n zeroRecord ≡ true
 unfolding soundRecord zeroRecord
 zero-sound n = both (both (le-leb 0 n (omega arith)) (le-leb 0 n (omega arith))) refl
 
-rested-sound : (kind : Kind) (n i : ℕ) (m : Member) (accepted : ℕ → ℕ) (last : Value) (known : ℕ → ℕ → ℕ) → Parts kind n i m
-    → Parts kind n i (rested m accepted last known)
-rested-sound kind n i m accepted last known s = record {
+dropped-sound : (kind : Kind) (n i : ℕ) (m : Member) → Parts kind n i m → Parts kind n i (dropped m)
+unfolding dropped
+dropped-sound kind n i m s = record {
   phase = omega arith;
   crashed = s .crashed;
   halt = s .halt;
@@ -179,10 +179,9 @@ rested-sound kind n i m accepted last known s = record {
 }
 
 outcome-sound : (kind : Kind) (n i : ℕ) (m : Member) (won : Bool) → Parts kind n i m → Parts kind n i (outcome m won)
-unfolding outcome completed dropped
-outcome-sound kind n i m true s =
-    rested-sound kind n i m (put (m .accepted) (m .slot) (m .own (m .slot))) (cond (eqb (m .operation) write) (m .pending) (m .last)) (m .first .matrix) s
-outcome-sound kind n i m false s = rested-sound kind n i m (m .accepted) (m .last) (m .known) s
+unfolding outcome completed tookOver
+outcome-sound kind n i m true s = dropped-sound kind n i (tookOver m) s
+outcome-sound kind n i m false s = dropped-sound kind n i m s
 
 crashed-sound : (kind : Kind) (n i : ℕ) (m : Member) → Parts kind n i m → Parts kind n i (crashedOf m)
 unfolding crashedOf

@@ -1,0 +1,401 @@
+-- What a table can hold: a board all of whose counts and words lie at members and slots 1 to n reads back from its words as itself, and
+-- every call leaves such a board. Assumes nothing.
+use Prim.Native.Nat.{ℕ, _+_, _-_, _*_, _≤_, _<_}
+use native.Mathlib.Omega.{arith}
+use mathlib.Core.Path.{_≡_, refl, sym, ap, _∙_, fun-ext}
+use mathlib.Core.Bool.{Bool, true, false, cond, _&&_}
+use mathlib.Core.Logic.{_⊎_, inl, inr, ⊎-elim}
+use mathlib.Core.List.{List}
+use lib.Dec.{eqb}
+use borrow.Author.Tests.{eqb-true, eqb-false, eq-eqb, ne-eqb}
+use Rattle.lists.specs.Functions.{put, pasted, from, inside, within, numbered}
+use Rattle.lists.specs.Parts.{words, tabulate}
+use Rattle.lists.proofs.Functions.{on, apart, put-at, put-off, put-same, put-all, inside-in, inside-low, inside-high, within-at, within-off, within-same, within-blank, numbered-within, numbered-off}
+use Rattle.lists.proofs.Parts.{tabulate-at}
+use Rattle.model.specs.Rows.{Row, Matrix, zeroRow, zeroMatrix, larger}
+use Rattle.model.specs.Records.{Value, Rec, write, zeroValue, opening, zeroRecord, matrixWithin, recordWithin}
+use Rattle.model.specs.RecordWords.{recordSize, rowOf, matrixOf, valueOf, recordOf, recordWords}
+use Rattle.model.specs.Kinds.{Kind, becomesStored}
+use Rattle.model.specs.Member.{Member, idle, begun, answered, haltNumber, joined, ownRecord, passed, failed, replied, judged, completed, dropped, tookOver, outcome, moved, crashedOf}
+use Rattle.model.specs.Host.{Entry, submitted, wins, entryAfter, storedAfter}
+use Rattle.model.specs.Board.{Board, noEntry, openingEntry, opened, withMember, boardBegun, submitTaken, replyTaken, sentRecord, commitTaken, outcomeTaken, boardDelivered, boardCrashed}
+use Rattle.model.specs.Runs.{Call, begin, deliver, crash, answerOf, done}
+use Rattle.model.specs.Table.{pendingAt, lastAt, ownAt, firstAt, secondAt, phaseAt, haltAt, crashedAt, slotAt, operationAt, knownAt, blockSize, memberOf, memberWords, entryOf, storedOf, entryWords, boardOf, tableWords}
+use Rattle.model.proofs.Rows.{larger-either}
+use Rattle.model.proofs.Answers.{begin-taken, deliver-taken, crash-taken, by-phase}
+use Rattle.model.proofs.AsReference.{board-phase}
+use Rattle.laws.proofs.Records.{recordOf-words, within-read, within-opening, within-zeroRecord}
+use Rattle.laws.proofs.Blocks.{member-words, member-same, member-zero, entry-read, stored-read}
+use Rattle.laws.proofs.Tables.{table-read}
+use Rattle.runs.proofs.Sound.{SoundBoard}
+use Rattle.laws.proofs.Steps.{headed, begun-by, noted-by, failed-by, judged-by, dropped-by, crashed-by, kept, tookOver-read, tookOver-write}
+
+-- Functions that are blank outside 1 to n.
+
+module _ {A : Type 0} (n : ℕ) (d : A) where
+  pub off-blank : (f : ℕ → A) → within n d f ≡ f → (k : ℕ) → inside n k ≡ false → f k ≡ d
+  off-blank f h k p = ap (λ g. g k) (sym h) ∙ within-off n d f k p
+
+  pub blank-off : (f : ℕ → A) → ((k : ℕ) → inside n k ≡ false → f k ≡ d) → within n d f ≡ f
+  blank-off f h = fun-ext λ k. on (inside n k)
+      (λ p. within-at n d f k (inside-low n k p) (inside-high n k p))
+      (λ p. within-off n d f k p ∙ sym (h k p))
+
+  within-put : (f : ℕ → A) (k : ℕ) (v : A) → inside n k ≡ true → within n d f ≡ f → within n d (put f k v) ≡ put f k v
+  within-put f k v p h = blank-off (put f k v) (λ i q.
+      put-off f k v i (λ e. apart (ap (inside n) e ∙ p) q) ∙ off-blank f h i q)
+
+  within-numbered : (f : ℕ → A) → within n d (numbered n d f) ≡ numbered n d f
+  within-numbered f = rw numbered-within (blank-off (within n d (λ k. f (k - 1))) (λ k p. within-off n d (λ k. f (k - 1)) k p))
+
+-- A matrix that a board of n has whole, row by row.
+abbrev pub MatrixHeld : ℕ → Matrix → Type 0
+MatrixHeld n m = ((j : ℕ) → inside n j ≡ false → m j ≡ zeroRow) × ((j : ℕ) → within n 0 (m j) ≡ m j)
+
+matrix-parts : (n : ℕ) (m : Matrix) → matrixWithin n m ≡ m → MatrixHeld n m
+unfolding zeroRow
+matrix-parts n m h = (
+  off-blank n zeroRow m whole,
+  λ j. on (inside n j)
+      (λ p. ap (within n 0) (here j p) ∙ blank-off n 0 (within n 0 (m j)) (λ k q. within-off n 0 (m j) k q) ∙ sym (here j p))
+      (λ p. ap (within n 0) (off-blank n zeroRow m whole j p) ∙ within-blank n 0 ∙ sym (off-blank n zeroRow m whole j p)),
+)
+  where
+    rows : ℕ → Row
+    rows j = within n 0 (m j)
+
+    whole : within n zeroRow m ≡ m
+    whole = blank-off n zeroRow m (λ k p. ap (λ g. g k) (sym h) ∙ within-off n zeroRow rows k p)
+
+    here : (j : ℕ) → inside n j ≡ true → m j ≡ within n 0 (m j)
+    here j p = ap (λ g. g j) (sym h) ∙ within-at n zeroRow rows j (inside-low n j p) (inside-high n j p)
+
+matrix-whole : (n : ℕ) (m : Matrix) → MatrixHeld n m → matrixWithin n m ≡ m
+matrix-whole n m h = blank-off n zeroRow (λ j. within n 0 (m j)) (λ j p. h .1 j ∙ h .0 j p) ∙ fun-ext (h .1)
+
+-- The member.
+
+pub record HeldMember (n : ℕ) (m : Member) : Type 0 where
+  pub block : ℕ → ℕ
+  pub decodes : m ≡ memberOf n block
+
+member-back : {n : ℕ} {m : Member} → HeldMember n m → memberOf n (words (memberWords n m)) ≡ m
+member-back {n} {m} h = rw (h .decodes) (
+    ap (λ l. memberOf n (words l)) (member-words n (h .block))
+    ∙ member-same n (words (tabulate (blockSize n) (h .block))) (h .block) (tabulate-at (blockSize n) (h .block)))
+
+-- a value of 8 words
+abbrev pub ValueHeld : Value → Type 0
+ValueHeld v = valueOf (λ i. v (i + 1)) ≡ v
+
+begun-held : {n : ℕ} {m : Member} (r t : ℕ) (v : Value) → HeldMember n m → inside n r ≡ true → ValueHeld v → HeldMember n (begun m r t v)
+begun-held {n} {m} r t v h p q = record {
+  block = headed (pasted (pendingAt n) 8 carried (put w (ownAt + r - 1) (w (ownAt + r - 1) + 1))) 1 r t;
+  decodes = ap (λ m. begun m r t v) (h .decodes) ∙ sym (begun-by n w r t v carried (inside-low n r p) (inside-high n r p) value);
+}
+  where
+    w : ℕ → ℕ
+    w = h .block
+
+    carried : ℕ → ℕ
+    carried = cond (eqb t write) (λ i. v (i + 1)) (from w (lastAt n))
+
+    value : valueOf carried ≡ cond (eqb t write) v (valueOf (from w (lastAt n)))
+    value = on (eqb t write) (λ e. rw e q) (λ e. rw e)
+
+-- a step within an operation that notes two records which the board has whole
+noted-held : {n : ℕ} {m : Member} (phase : ℕ) (one two : Rec) → HeldMember n m → recordWithin n one ≡ one → recordWithin n two ≡ two
+    → HeldMember n (moved m phase (m .halt) one two)
+noted-held {n} {m} phase one two h p q = record {
+  block = put (pasted (secondAt n) (recordSize n) (words (recordWords n two)) (pasted (firstAt n) (recordSize n) (words (recordWords n one)) w)) phaseAt phase;
+  decodes = ap (λ m. moved m phase (m .halt) one two) (h .decodes)
+      ∙ (λ t. moved (memberOf n w) phase (memberOf n w .halt) (sym p t) (sym q t)) ∙ sym (noted-by n w phase one two);
+}
+  where
+    w : ℕ → ℕ
+    w = h .block
+
+failed-held : {n : ℕ} {m : Member} (number : ℕ) → HeldMember n m → HeldMember n (failed m number)
+failed-held {n} {m} number h = record {
+  block = put (put (pasted (firstAt n) (2 * recordSize n) (λ i. 0) (h .block)) phaseAt 6) haltAt number;
+  decodes = ap (λ m. failed m number) (h .decodes) ∙ sym (failed-by n (h .block) number);
+}
+
+judged-held : {n : ℕ} {m : Member} (won : Bool) → HeldMember n m → HeldMember n (judged m won)
+judged-held {n} {m} won h = record {
+  block = put (h .block) phaseAt (cond won 4 5);
+  decodes = ap (λ m. judged m won) (h .decodes) ∙ sym (judged-by n (h .block) won);
+}
+
+dropped-held : {n : ℕ} {m : Member} → HeldMember n m → HeldMember n (dropped m)
+dropped-held {n} {m} h = record {
+  block = headed (pasted (firstAt n) (2 * recordSize n) (λ i. 0) (pasted (pendingAt n) 8 (λ i. 0) (h .block))) 0 0 0;
+  decodes = ap dropped (h .decodes) ∙ sym (dropped-by n (h .block));
+}
+
+crashed-held : {n : ℕ} {m : Member} → HeldMember n m → HeldMember n (crashedOf m)
+crashed-held {n} {m} h = record {
+  block = put (h .block) crashedAt 1;
+  decodes = ap crashedOf (h .decodes) ∙ sym (crashed-by n (h .block));
+}
+
+-- The parts of a member that is held.
+
+matrix-read : (n : ℕ) (w : ℕ → ℕ) → MatrixHeld n (matrixOf n w)
+unfolding matrixOf rowOf zeroRow
+matrix-read n w = (
+  numbered-off n zeroRow rows,
+  λ j. on (inside n j)
+      (λ p. let e = here j p in ap (within n 0) e ∙ within-numbered n 0 (from w ((j - 1) * n)) ∙ sym e)
+      (λ p. let e = numbered-off n zeroRow rows j p in ap (within n 0) e ∙ within-blank n 0 ∙ sym e),
+)
+  where
+    rows : ℕ → Row
+    rows k = numbered n 0 (from w (k * n))
+
+    here : (j : ℕ) → inside n j ≡ true → numbered n zeroRow rows j ≡ numbered n 0 (from w ((j - 1) * n))
+    here j p = ap (λ g. g j) (numbered-within n zeroRow rows) ∙ within-at n zeroRow (λ k. rows (k - 1)) j (inside-low n j p) (inside-high n j p)
+
+known-held : {n : ℕ} {m : Member} → HeldMember n m → MatrixHeld n (m .known)
+unfolding memberOf
+known-held {n} h = rw (h .decodes) (matrix-read n (from (h .block) (knownAt n)))
+
+pending-held : {n : ℕ} {m : Member} → HeldMember n m → within 8 0 (m .pending) ≡ m .pending
+unfolding memberOf valueOf
+pending-held {n} h = rw (h .decodes) (within-numbered 8 0 (from (h .block) (pendingAt n)))
+
+first-held : {n : ℕ} {m : Member} → HeldMember n m → recordWithin n (m .first) ≡ m .first
+unfolding memberOf
+first-held {n} h = rw (h .decodes) (within-read n (from (h .block) (firstAt n)))
+
+second-held : {n : ℕ} {m : Member} → HeldMember n m → recordWithin n (m .second) ≡ m .second
+unfolding memberOf
+second-held {n} h = rw (h .decodes) (within-read n (from (h .block) (secondAt n)))
+
+-- The member's own record: its rows are the known ones and the newest record's, with one count of the board's replaced.
+
+joined-held : (n i r count : ℕ) (known newest : Matrix) → inside n i ≡ true → inside n r ≡ true → MatrixHeld n known → MatrixHeld n newest
+    → MatrixHeld n (joined n i r count known newest)
+unfolding joined
+joined-held n i r count known newest p q k w = (
+  (λ j o. rw (ne-eqb j r (λ e. apart (ap (inside n) e ∙ q) o)) (⊎-elim (λ e. e ∙ k .0 j o) (λ e. e ∙ w .0 j o) (larger-either n (known j) (newest j)))),
+  (λ j. on (eqb j r)
+      (λ e. rw e (within-put n 0 (newest r) i count p (w .1 r)))
+      (λ e. rw e (⊎-elim
+      (λ d. rw d (k .1 j)) (λ d. rw d (w .1 j)) (larger-either n (known j) (newest j))))),
+)
+
+matrix-of : (n : ℕ) (r : Rec) → recordWithin n r ≡ r → matrixWithin n (r .matrix) ≡ r .matrix
+unfolding recordWithin
+matrix-of n r h = ap (λ r. r .matrix) h
+
+own-held : {n : ℕ} {m : Member} (i : ℕ) (newest : Rec) → HeldMember n m → inside n i ≡ true → inside n (m .slot) ≡ true
+    → recordWithin n newest ≡ newest → recordWithin n (ownRecord n i m newest) ≡ ownRecord n i m newest
+unfolding recordWithin ownRecord
+own-held {n} {m} i newest h p q w = λ t. record {
+  member = i;
+  slot = m .slot;
+  operation = m .operation;
+  count = m .own (m .slot);
+  value = pending-held h t;
+  matrix = matrix-whole n _ (joined-held n i (m .slot) (m .own (m .slot)) (m .known) (newest .matrix) p q (known-held h)
+      (matrix-parts n (newest .matrix) (matrix-of n newest w))) t;
+}
+
+replied-held : {n : ℕ} {m : Member} (i : ℕ) (newest stored : Rec) (seals : ℕ) → HeldMember n m → inside n i ≡ true → inside n (m .slot) ≡ true
+    → recordWithin n newest ≡ newest → recordWithin n stored ≡ stored → HeldMember n (replied n i m newest stored seals)
+unfolding replied passed
+replied-held {n} {m} i newest stored seals h p q a b = on (eqb (haltNumber n i m newest stored seals) 0)
+    (λ e. rw e (noted-held 3 (ownRecord n i m newest) stored h (own-held i newest h p q a) b))
+    (λ e. rw e (failed-held (haltNumber n i m newest stored seals) h))
+
+-- The board.
+
+pub record HeldBoard (n : ℕ) (b : Board) : Type 0 where
+  pub members : (i : ℕ) → inside n i ≡ true → HeldMember n (b .members i)
+  pub membersOff : (i : ℕ) → inside n i ≡ false → b .members i ≡ idle
+  pub newest : (r : ℕ) → recordWithin n (b .host r .newest) ≡ b .host r .newest
+  pub hostOff : (r : ℕ) → inside n r ≡ false → b .host r ≡ noEntry
+  pub stored : (r : ℕ) → recordWithin n (b .stored r) ≡ b .stored r
+  pub storedOff : (r : ℕ) → inside n r ≡ false → b .stored r ≡ zeroRecord
+
+-- it reads back from its words
+pub board-read : (n : ℕ) (b : Board) → HeldBoard n b → boardOf n (words (tableWords n b)) ≡ b
+board-read n b h = table-read n b ∙ (λ t. record {
+  members = members t;
+  host = host t;
+  stored = stored t;
+})
+  where
+    members : within n idle (λ i. memberOf n (words (memberWords n (b .members i)))) ≡ b .members
+    members = within-same n idle (λ i. memberOf n (words (memberWords n (b .members i)))) (b .members)
+        (λ i p q. member-back (h .members i (inside-in n i p q)))
+        ∙ blank-off n idle (b .members) (h .membersOff)
+
+    host : within n noEntry (λ r. entryOf n (words (entryWords n (b .host r) (b .stored r)))) ≡ b .host
+    host = within-same n noEntry (λ r. entryOf n (words (entryWords n (b .host r) (b .stored r)))) (b .host)
+        (λ r p q. entry-read n (b .host r) (b .stored r) (recordOf-words n (b .host r .newest) ∙ h .newest r))
+        ∙ blank-off n noEntry (b .host) (h .hostOff)
+
+    stored : within n zeroRecord (λ r. storedOf n (words (entryWords n (b .host r) (b .stored r)))) ≡ b .stored
+    stored = within-same n zeroRecord (λ r. storedOf n (words (entryWords n (b .host r) (b .stored r)))) (b .stored)
+        (λ r p q. stored-read n (b .host r) (b .stored r) (recordOf-words n (b .stored r) ∙ h .stored r))
+        ∙ blank-off n zeroRecord (b .stored) (h .storedOff)
+
+-- one member changed, and one slot
+module _ (n : ℕ) (b : Board) (h : HeldBoard n b) where
+  member-held : (i : ℕ) (m : Member) → inside n i ≡ true → HeldMember n m → HeldBoard n (withMember b i m)
+  unfolding withMember
+  member-held i m p g = record {
+    members = put-all (λ k m. inside n k ≡ true → HeldMember n m) (b .members) i m (λ q. g) (λ k d. h .members k);
+    membersOff = put-all (λ k m. inside n k ≡ false → m ≡ idle) (b .members) i m (λ q. absurd (apart p q)) (λ k d. h .membersOff k);
+    newest = h .newest;
+    hostOff = h .hostOff;
+    stored = h .stored;
+    storedOff = h .storedOff;
+  }
+
+  slot-held : (r : ℕ) (e : Entry) (s : Rec) → inside n r ≡ true → recordWithin n (e .newest) ≡ e .newest → recordWithin n s ≡ s
+      → HeldBoard n (record { members = b .members; host = put (b .host) r e; stored = put (b .stored) r s })
+  slot-held r e s p g k = record {
+    members = h .members;
+    membersOff = h .membersOff;
+    newest = put-all (λ k e. recordWithin n (e .newest) ≡ e .newest) (b .host) r e g (λ k d. h .newest k);
+    hostOff = put-all (λ k e. inside n k ≡ false → e ≡ noEntry) (b .host) r e (λ q. absurd (apart p q)) (λ k d. h .hostOff k);
+    stored = put-all (λ k s. recordWithin n s ≡ s) (b .stored) r s k (λ k d. h .stored k);
+    storedOff = put-all (λ k s. inside n k ≡ false → s ≡ zeroRecord) (b .stored) r s (λ q. absurd (apart p q)) (λ k d. h .storedOff k);
+  }
+
+-- The opening.
+
+idle-held : (n : ℕ) → HeldMember n idle
+idle-held n = record { block = λ i. 0; decodes = sym (member-zero n) }
+
+-- what holds of the blank and of each on 1 to n holds everywhere
+within-all : {A : Type 0} (Q : A → Type 0) (n : ℕ) (d : A) (f : ℕ → A) → Q d → ((k : ℕ) → Q (f k)) → (k : ℕ) → Q (within n d f k)
+unfolding within
+within-all Q n d f blank each k = on (inside n k) (λ p. rw p (each k)) (λ p. rw p blank)
+
+pub opened-held : (n : ℕ) → HeldBoard n (opened n)
+unfolding opened noEntry openingEntry
+opened-held n = record {
+  members = λ i p. idle-held n;
+  membersOff = λ i p. refl;
+  newest = within-all (λ e. recordWithin n (e .newest) ≡ e .newest) n noEntry openingEntry (within-zeroRecord n) (within-opening n);
+  hostOff = λ r p. within-off n noEntry openingEntry r p;
+  stored = within-all (λ r. recordWithin n r ≡ r) n zeroRecord opening (within-zeroRecord n) (within-opening n);
+  storedOff = λ r p. within-off n zeroRecord opening r p;
+}
+
+-- Every call.
+
+completed-held : {n : ℕ} {m : Member} → HeldMember n m → inside n (m .slot) ≡ true → HeldMember n (completed m)
+unfolding completed memberOf
+completed-held {n} {m} h p = dropped-held (on (eqb (w operationAt) write)
+    (λ e. record {
+      block = pasted (lastAt n) 8 (from (kept n w) (pendingAt n)) (kept n w);
+      decodes = ap tookOver (h .decodes) ∙ sym (tookOver-write n w (inside-low n (w slotAt) slot) (inside-high n (w slotAt) slot) e);
+    })
+    (λ e. record {
+      block = kept n w;
+      decodes = ap tookOver (h .decodes) ∙ sym (tookOver-read n w (inside-low n (w slotAt) slot) (inside-high n (w slotAt) slot) e);
+    }))
+  where
+    w : ℕ → ℕ
+    w = h .block
+
+    slot : inside n (h .block slotAt) ≡ true
+    slot = ap (λ m. inside n (m .slot)) (sym (h .decodes)) ∙ p
+
+outcome-held : {n : ℕ} {m : Member} (won : Bool) → HeldMember n m → inside n (m .slot) ≡ true → HeldMember n (outcome m won)
+unfolding outcome
+outcome-held true h p = completed-held h p
+outcome-held false h p = dropped-held h
+
+-- a call whose value has 8 words
+abbrev pub CallHeld : Call → Type 0
+CallHeld (begin i r t v) = ValueHeld v
+CallHeld (deliver i) = Unit {0}
+CallHeld (crash i) = Unit {0}
+
+module _ (kind : Kind) (n : ℕ) (b : Board) (s : SoundBoard kind n b) (h : HeldBoard n b) (i : ℕ) (p : inside n i ≡ true) where
+  mine : HeldMember n (b .members i)
+  mine = h .members i p
+
+  slot-inside : inside 5 (b .members i .phase) ≡ true → inside n (b .members i .slot) ≡ true
+  slot-inside q = inside-in n (b .members i .slot) (s .members i p .operates q .slotLeast) (s .members i p .slot)
+
+  submit-held : b .members i .phase ≡ 1 → HeldBoard n (submitTaken b i)
+  unfolding submitTaken answered submitted withMember
+  submit-held e =
+      let m = b .members i in
+      let r = m .slot in
+      let q = slot-inside (inside-in 5 (m .phase) (omega arith) (omega arith)) in
+      let one = member-held n b h i (answered m (b .host r .newest) (b .stored r)) p (noted-held 2 (b .host r .newest) (b .stored r) mine (h .newest r) (h .stored r)) in
+      rw (put-same (b .stored) r) at
+      (slot-held n (withMember b i (answered m (b .host r .newest) (b .stored r))) one r (submitted (b .host r) i (m .own r)) (b .stored r) q (h .newest r) (h .stored r))
+
+  reply-held : b .members i .phase ≡ 2 → HeldBoard n (replyTaken n b i)
+  unfolding replyTaken
+  reply-held e =
+      let m = b .members i in
+      member-held n b h i (replied n i m (m .first) (m .second) 3) p
+      (replied-held i (m .first) (m .second) 3 mine p (slot-inside (inside-in 5 (m .phase) (omega arith) (omega arith))) (first-held mine) (second-held mine))
+
+  sent-held : recordWithin n (sentRecord i (b .members i)) ≡ sentRecord i (b .members i)
+  unfolding recordWithin sentRecord
+  sent-held = λ t. record {
+    member = i;
+    slot = b .members i .slot;
+    operation = b .members i .operation;
+    count = b .members i .own (b .members i .slot);
+    value = ap (λ r. r .value) (first-held mine) t;
+    matrix = ap (λ r. r .matrix) (first-held mine) t;
+  }
+
+  commit-held : b .members i .phase ≡ 3 → HeldBoard n (commitTaken kind b i)
+  unfolding commitTaken entryAfter storedAfter withMember
+  commit-held e =
+      let m = b .members i in
+      let r = m .slot in
+      let c = sentRecord i m in
+      let q = slot-inside (inside-in 5 (m .phase) (omega arith) (omega arith)) in
+      let won = wins (b .host r) c in
+      slot-held n (withMember b i (judged m won)) (member-held n b h i (judged m won) p (judged-held won mine)) r
+      (entryAfter (b .host r) c) (storedAfter kind (b .host r) (b .stored r) c) q
+      (split (λ (e : Entry). recordWithin n (e .newest) ≡ e .newest) (record { submitMember = 0; submitCount = 0; newest = c }) (b .host r) won
+      sent-held (h .newest r))
+      (split (λ (s : Rec). recordWithin n s ≡ s) c (b .stored r) (won && becomesStored kind c) sent-held (h .stored r))
+    where
+      split : {A : Type 0} (Q : A → Type 0) (x y : A) (t : Bool) → Q x → Q y → Q (cond t x y)
+      split Q x y true a c = a
+      split Q x y false a c = c
+
+  deliver-held : (b .members i .phase ≡ 0 → ⊥) → (b .members i .phase ≡ 6 → ⊥) → HeldBoard n (boardDelivered kind n b i)
+  unfolding outcomeTaken
+  deliver-held z six = by-phase (b .members i .phase) z (let g = s .members i p .phase in omega arith)
+      (λ e. rw (board-phase kind n b i 1 e) (submit-held e))
+      (λ e. rw (board-phase kind n b i 2 e) (reply-held e))
+      (λ e. rw (board-phase kind n b i 3 e) (commit-held e))
+      (λ e. rw (board-phase kind n b i 4 e) (ended true e (omega arith) (omega arith)))
+      (λ e. rw (board-phase kind n b i 5 e) (ended false e (omega arith) (omega arith)))
+    where
+      ended : (won : Bool) {q : ℕ} → b .members i .phase ≡ q → 1 ≤ q → q ≤ 5 → HeldBoard n (withMember b i (outcome (b .members i) won))
+      ended won e low high = member-held n b h i (outcome (b .members i) won) p
+          (outcome-held won mine (slot-inside (inside-in 5 (b .members i .phase) (omega arith) (omega arith))))
+
+pub done-held : (kind : Kind) (n : ℕ) (b : Board) (call : Call) → SoundBoard kind n b → HeldBoard n b → CallHeld call
+    → answerOf kind n b call ≡ 0 → HeldBoard n (done kind n b call)
+unfolding answerOf done boardBegun boardCrashed
+done-held kind n b (begin i r t v) s h v8 a =
+    let m = b .members i in
+    let k = begin-taken kind n (m .phase) (m .crashed) (m .own r) i r t a in
+    member-held n b h i (begun m r t v) (k .member) (begun-held r t v (h .members i (k .member)) (k .slot) v8)
+done-held kind n b (deliver i) s h _ a =
+    let m = b .members i in
+    let k = deliver-taken n (m .phase) (m .crashed) i a in
+    deliver-held kind n b s h i (k .member) (k .notIdle) (k .notHalted)
+done-held kind n b (crash i) s h _ a =
+    let m = b .members i in
+    let k = crash-taken n (m .phase) (m .crashed) i a in
+    member-held n b h i (crashedOf m) k (crashed-held (h .members i k))
