@@ -167,13 +167,22 @@ matrixWord-of n w i h =
     ∙ rowOf-at n (from w (i / n * n)) (i % n) (mod-lt i (some n i h))
     ∙ ap w (div-add-mod' i n)
 
+pub row-listed : (n : ℕ) (w : ℕ → ℕ) → listed n (rowOf n w) ≡ tabulate n w
+row-listed n w = tabulate-same n (λ i. rowOf n w (i + 1)) w (rowOf-at n w)
+
+pub value-listed : (w : ℕ → ℕ) → listed 8 (valueOf w) ≡ tabulate 8 w
+value-listed w = tabulate-same 8 (λ i. valueOf w (i + 1)) w (valueOf-at w)
+
+pub matrix-listed : (n : ℕ) (w : ℕ → ℕ) → tabulate (n * n) (matrixWord n (matrixOf n w)) ≡ tabulate (n * n) w
+matrix-listed n w = tabulate-same (n * n) (matrixWord n (matrixOf n w)) w (matrixWord-of n w)
+
 pub recordWords-of : (n : ℕ) (w : ℕ → ℕ) → recordWords n (recordOf n w) ≡ tabulate (recordSize n) w
 unfolding recordWords recordOf recordSize tabulate
 recordWords-of n w =
     ap (λ l. tabulate 4 w ++ (l ++ tabulate (n * n) (matrixWord n (matrixOf n (from w 12)))))
-    (tabulate-same 8 (λ i. valueOf (from w 4) (i + 1)) (from w 4) (valueOf-at (from w 4)))
+    (value-listed (from w 4))
     ∙ ap (λ l. tabulate 4 w ++ (tabulate 8 (from w 4) ++ l))
-    (tabulate-same (n * n) (matrixWord n (matrixOf n (from w 12))) (from w 12) (matrixWord-of n (from w 12)))
+    (matrix-listed n (from w 12))
     ∙ ap (λ f. tabulate 4 w ++ (tabulate 8 (from w 4) ++ tabulate (n * n) f)) (sym (from-from w 4 8))
     ∙ ap (λ l. tabulate 4 w ++ l) (sym (tabulate-append 8 (n * n) (from w 4)))
     ∙ sym (tabulate-append 4 (8 + n * n) w)

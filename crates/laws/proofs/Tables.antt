@@ -11,15 +11,15 @@ use borrow.Author.Tests.{leb-true, eqb-true, eqb-false}
 use Rattle.lists.specs.Functions.{put, pasted, from, within, each}
 use Rattle.lists.specs.Parts.{words, tabulate, replaced}
 use Rattle.lists.specs.Pieces.{place, laid}
-use Rattle.lists.proofs.Functions.{on, first, second, each-at, within-at, within-same}
+use Rattle.lists.proofs.Functions.{on, first, second, each-at, within-at, within-same, within-blank, from-from, from-pasted-at, from-pasted-below, from-pasted-above}
 use Rattle.lists.proofs.Parts.{words-replaced}
-use Rattle.lists.proofs.Pieces.{from-from, part-at, part-pasted, part-before, part-after, pasted-from, middle-at, second-at, tabulate-append, tabulate-of, place-room, length-laid, laid-tabulate, pieces-at, pieces-same, pieces-put, pieces-laid}
+use Rattle.lists.proofs.Pieces.{part-at, pasted-from, middle-at, second-at, tabulate-join, tabulate-of, place-room, length-laid, laid-tabulate, pieces-at, pieces-same, pieces-put, pieces-laid}
 use Rattle.model.specs.Records.{Rec, opening, zeroRecord}
 use Rattle.model.specs.Member.{Member, idle}
 use Rattle.model.specs.Host.{Entry}
 use Rattle.model.specs.Board.{Board, noEntry, openingEntry, opened, withMember}
 use Rattle.model.specs.Table.{blocksAt, blockSize, entrySize, hostSize, blockAt, hostAt, entryAt, tableSize, memberOf, entryOf, storedOf, membersOf, hostOf, storedRecordsOf, boardOf, memberWords, entryWords, hostWords, tableWords}
-use Rattle.laws.proofs.Blocks.{block-sum, entry-sum, member-part, member-same, entry-same, stored-same, length-member, length-entry, within-blank, member-words, entry-words, entry-read, stored-read, idle-read, opening-read}
+use Rattle.laws.proofs.Blocks.{block-sum, entry-sum, member-part, member-same, entry-same, stored-same, length-member, length-entry, member-words, entry-words, entry-read, stored-read, idle-read, opening-read}
 
 -- Sizes.
 
@@ -142,7 +142,7 @@ unfolding tableWords boardOf tableSize hostAt
 table-words n w h =
     rw (members-words n (from w blocksAt), host-words n (from w (hostAt n)))
     (ap (λ k. k ∷ (tabulate (n * blockSize n) (from w blocksAt) ++ tabulate (hostSize n) (from w (hostAt n)))) (sym h)
-    ∙ simp (← tabulate-append, ← one))
+    ∙ simp (← tabulate-join, ← one))
 
 pub host-back : (n : ℕ) (l : List ℕ) → length l ≡ hostSize n → hostWords n (hostOf n (words l)) (storedRecordsOf n (words l)) ≡ l
 host-back n l h = host-words n (words l) ∙ tabulate-of (hostSize n) l h
@@ -236,16 +236,16 @@ board-block n i g w p q = board-by
     (ap (storedRecordsOf n) kept)
   where
     kept : from (pasted (blockAt n i) (blockSize n) g w) (hostAt n) ≡ from w (hostAt n)
-    kept = fun-ext λ j. part-after (blockAt n i) (blockSize n) g w (hostAt n) j (block-room n i p q)
+    kept = from-pasted-above (blockAt n i) (blockSize n) g w (hostAt n) (block-room n i p q)
 
 pub board-host : (n : ℕ) (g w : ℕ → ℕ)
     → boardOf n (pasted (hostAt n) (hostSize n) g w) ≡ record { members = boardOf n w .members; host = hostOf n g; stored = storedRecordsOf n g }
 unfolding boardOf hostAt
 board-host n g w = board-by
     (members-same n (from (pasted (hostAt n) (hostSize n) g w) blocksAt) (from w blocksAt)
-    (λ i p. part-before (hostAt n) (hostSize n) g w blocksAt i (omega arith)))
-    (host-same n (from (pasted (hostAt n) (hostSize n) g w) (hostAt n)) g (part-pasted (hostAt n) (hostSize n) g w))
-    (stored-records-same n (from (pasted (hostAt n) (hostSize n) g w) (hostAt n)) g (part-pasted (hostAt n) (hostSize n) g w))
+    (λ i p. from-pasted-below (hostAt n) (hostSize n) g w blocksAt i (omega arith)))
+    (host-same n (from (pasted (hostAt n) (hostSize n) g w) (hostAt n)) g (from-pasted-at (hostAt n) (hostSize n) g w))
+    (stored-records-same n (from (pasted (hostAt n) (hostSize n) g w) (hostAt n)) g (from-pasted-at (hostAt n) (hostSize n) g w))
 
 module _ (n r : ℕ) (g w : ℕ → ℕ) (low : 1 ≤ r) (high : r ≤ n) where
   pub host-entry : hostOf n (pasted (place (entrySize n) r) (entrySize n) g w) ≡ put (hostOf n w) r (entryOf n g)

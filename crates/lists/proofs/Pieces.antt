@@ -13,28 +13,10 @@ use borrow.Author.Tests.{eqb-true, eqb-false, ltb-true, ltb-false}
 use Rattle.lists.specs.Functions.{put, pasted, from, inside, within}
 use Rattle.lists.specs.Parts.{words, tabulate, replaced}
 use Rattle.lists.specs.Pieces.{place, pieces, laid}
-use Rattle.lists.proofs.Functions.{on, by-place, put-at, put-off, pasted-in, pasted-below, pasted-above, inside-low, inside-high, within-at, within-off, within-same}
-use Rattle.lists.proofs.Parts.{tabulate-same, tabulate-words}
+use Rattle.lists.proofs.Functions.{on, by-place, put-at, put-off, pasted-in, pasted-below, pasted-above, inside-low, inside-high, within-at, within-off, within-same, from-pasted-at, from-pasted-below, from-pasted-above}
+use Rattle.lists.proofs.Parts.{tabulate-same, tabulate-words, tabulate-append}
 
 -- Words from a place on.
-
-pub from-from : {A : Type 0} (f : ℕ → A) (a b : ℕ) → from (from f a) b ≡ from f (a + b)
-unfolding from
-from-from f a b = fun-ext λ i. ap f (omega arith)
-
--- the part that was pasted, and words before and after it
-module _ {A : Type 0} (a k : ℕ) (g f : ℕ → A) where
-  pub part-pasted : (i : ℕ) → i < k → from (pasted a k g f) a i ≡ g i
-  unfolding from
-  part-pasted i h = pasted-in a k g f (a + i) (omega arith) (omega arith) ∙ ap g (omega arith)
-
-  pub part-before : (b i : ℕ) → b + i < a → from (pasted a k g f) b i ≡ from f b i
-  unfolding from
-  part-before b i h = pasted-below a k g f (b + i) h
-
-  pub part-after : (b i : ℕ) → a + k ≤ b → from (pasted a k g f) b i ≡ from f b i
-  unfolding from
-  part-after b i h = pasted-above a k g f (b + i) (omega arith)
 
 -- a run pasted further on
 pub pasted-from : {A : Type 0} (a b k : ℕ) (g f : ℕ → A) → from (pasted (a + b) k g f) a ≡ pasted b k g (from f a)
@@ -67,16 +49,12 @@ put-back l a k p e = rw (← e)
 
 -- Lists of a function's values, one after the other.
 
-pub tabulate-append : (a b : ℕ) (f : ℕ → ℕ) → tabulate a f ++ tabulate b (from f a) ≡ tabulate (a + b) f
-unfolding tabulate from
-tabulate-append zero b f = rw zero-add (tabulate-same b (λ i. f (0 + i)) f (λ i h. ap f (omega arith)))
-tabulate-append (suc a) b f =
-    rw suc-add
-    (ap (λ l. f zero ∷ (tabulate a (λ i. f (suc i)) ++ l)) (tabulate-same b (λ i. f (suc a + i)) (λ i. f (suc (a + i))) (λ i h. ap f (omega arith)))
-    ∙ ap (λ l. f zero ∷ l) (tabulate-append a b (λ i. f (suc i))))
+-- two runs of values joined
+pub tabulate-join : (a b : ℕ) (f : ℕ → ℕ) → tabulate a f ++ tabulate b (from f a) ≡ tabulate (a + b) f
+tabulate-join a b f = sym (tabulate-append a b f)
 
 pub tabulate-run : (a b : ℕ) (f : ℕ → ℕ) (rest : List ℕ) → tabulate a f ++ (tabulate b (from f a) ++ rest) ≡ tabulate (a + b) f ++ rest
-tabulate-run a b f rest = sym (append-assoc (tabulate a f) (tabulate b (from f a)) rest) ∙ ap (λ l. l ++ rest) (tabulate-append a b f)
+tabulate-run a b f rest = sym (append-assoc (tabulate a f) (tabulate b (from f a)) rest) ∙ ap (λ l. l ++ rest) (tabulate-join a b f)
 
 pub tabulate-of : (k : ℕ) (l : List ℕ) → length l ≡ k → tabulate k (words l) ≡ l
 tabulate-of k l e = rw (← e) (tabulate-words l)
@@ -139,7 +117,7 @@ module _ (s : ℕ) (f : ℕ → List ℕ) where
   laid-tabulate (suc n) w h =
       rw (laid-tabulate n w (λ k p q. h k p (omega arith)), h (suc n) (omega arith) (omega arith), suc-mul n s)
       (let e : place s (suc n) ≡ n * s = ap (place s) (sym (add-one n)) ∙ place-end s n in
-      rw e (tabulate-append (n * s) s w))
+      rw e (tabulate-join (n * s) s w))
 
 -- Things read, each by f, which looks at s words.
 
@@ -170,14 +148,14 @@ module _ {A : Type 0} (n : ℕ) (d : A) (s : ℕ) (f : (ℕ → ℕ) → A) wher
         ∙ sym (put-off (pieces n d s f w) k (f g) j c))
       where
         here : pieces n d s f (pasted (place s k) s g w) k ≡ f g
-        here = pieces-at (pasted (place s k) s g w) k p q ∙ looks (from (pasted (place s k) s g w) (place s k)) g (part-pasted (place s k) s g w)
+        here = pieces-at (pasted (place s k) s g w) k p q ∙ looks (from (pasted (place s k) s g w) (place s k)) g (from-pasted-at (place s k) s g w)
 
         there : (j : ℕ) → (j ≡ k → ⊥) → 1 ≤ j → j ≤ n → pieces n d s f (pasted (place s k) s g w) j ≡ pieces n d s f w j
         there j c a b =
             pieces-at (pasted (place s k) s g w) j a b
             ∙ looks (from (pasted (place s k) s g w) (place s j)) (from w (place s j)) (λ i r. on (ltb j k)
-            (λ e. part-before (place s k) s g w (place s j) i (omega (arith, place-apart s j k a (ltb-true j k e))))
-            (λ e. part-after (place s k) s g w (place s j) i (place-apart s k j p (omega (arith, ltb-false j k e)))))
+            (λ e. from-pasted-below (place s k) s g w (place s j) i (omega (arith, place-apart s j k a (ltb-true j k e))))
+            (λ e. ap (λ f. f i) (from-pasted-above (place s k) s g w (place s j) (place-apart s k j p (omega (arith, ltb-false j k e))))))
             ∙ sym (pieces-at w j a b)
 
     -- what was laid out is read back
