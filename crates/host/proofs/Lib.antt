@@ -1,0 +1,3 @@
+pub mod EntryWords
+pub mod Lent
+pub mod Answers

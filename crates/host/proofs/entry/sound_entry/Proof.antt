@@ -1,0 +1,63 @@
+-- `sound_entry` meets its contract. Assumes nothing.
+use borrow.Author.Needs.{needs}
+use mathlib.Core.Path.{sym, _∙_}
+use native.Mathlib.Omega.{arith}
+use borrow.Author.Tests.{le-leb, lt-leb, not-true, not-false}
+use Rattle.lists.specs.Parts.{words}
+use Rattle.model.specs.Table.{soundEntry, entryOf, storedOf}
+use Rattle.host.proofs.EntryWords.{sizes}
+use Rattle.host.proofs.entry.sound_entry.Statement.{statement}
+use Rattle.host.proofs.entry.sound_entry.Tie as tie
+
+newest-at-requires : tie.Need-newest-at-requires
+newest-at-requires c κs = search needs
+
+shared-slice-read-if1 : tie.Need-shared-slice-read-if1
+shared-slice-read-if1 c =
+    let s = sizes (c .before .before .before .args .n) in
+    omega arith
+
+returns : tie.Need-returns
+unfolding soundEntry entryOf storedOf
+returns c = rw (lt-leb (words (c .before .before .before .before .args .entry .now) 0) (c .before .before .before .before .args .n) (c .if1 .taken))
+
+sound-record-requires : tie.Need-sound-record-requires
+sound-record-requires c κs =
+    let s = sizes (c .before .before .before .before .args .n) in
+    omega arith
+
+returns-2 : tie.Need-returns-2
+unfolding soundEntry entryOf storedOf
+returns-2 c =
+    let a = c .before .before .before .before .before .before .args in
+    rw (
+      le-leb (words (a .entry .now) 0) (a .n) (c .before .before .if1 .left),
+      sym (c .before .sound-record .ensures) ∙ not-true _ (c .if2 .taken),
+    )
+
+sound-record-requires-2 : tie.Need-sound-record-requires-2
+sound-record-requires-2 c κs =
+    let s = sizes (c .before .before .before .before .before .before .args .n) in
+    let p = c .before .before .before .before .newest-at .ensures in
+    omega arith
+
+returns-3 : tie.Need-returns-3
+unfolding soundEntry entryOf storedOf
+returns-3 c =
+    let a = c .before .before .before .before .before .before .before .args in
+    rw (
+      le-leb (words (a .entry .now) 0) (a .n) (c .before .before .before .if1 .left),
+      sym (c .before .before .sound-record .ensures) ∙ not-false _ (c .before .if2 .left),
+    ) (rw (c .before .before .before .before .before .newest-at .ensures) at (c .sound-record2 .ensures))
+
+pub sound-entry-spec : {M : Type 1} → statement M
+sound-entry-spec =
+    tie.close
+    (tie.spec
+    newest-at-requires
+    shared-slice-read-if1
+    returns
+    sound-record-requires
+    returns-2
+    sound-record-requires-2
+    returns-3)

@@ -1,0 +1,82 @@
+-- `submit` meets its contract. Assumes nothing.
+use borrow.Author.Needs.{needs}
+use mathlib.Core.Path.{ap, _∙_}
+use native.Mathlib.Omega.{arith}
+use Rattle.lists.specs.Functions.{put}
+use Rattle.lists.specs.Parts.{words}
+use Rattle.lists.proofs.Functions.{put-same}
+use Rattle.model.specs.Host.{submitted}
+use Rattle.model.specs.Table.{hostOf, storedRecordsOf}
+use Rattle.host.proofs.Lent.{lent, lent-entry, entry-lent, stored-lent, host-changed, stored-changed}
+use Rattle.host.proofs.steps.submit.Statement.{statement}
+use Rattle.host.proofs.steps.submit.Tie as tie
+
+entry-place-requires : tie.Need-entry-place-requires
+entry-place-requires c κs = search needs
+
+entry-size-requires : tie.Need-entry-size-requires
+entry-size-requires c κs = search needs
+
+add-end : tie.Need-add-end
+add-end c = search needs
+
+mul-submit-entry : tie.Need-mul-submit-entry
+mul-submit-entry c = search needs
+
+sub-submit-entry : tie.Need-sub-submit-entry
+sub-submit-entry c = search needs
+
+part-submit-entry-start : tie.Need-part-submit-entry-start
+part-submit-entry-start c = search needs
+
+part-submit-entry-end : tie.Need-part-submit-entry-end
+part-submit-entry-end c = search needs
+
+submit-entry-requires : tie.Need-submit-entry-requires
+submit-entry-requires c κs =
+    lent-entry (lent (c .before .before .before .before .pre) (c .before .before .entry-place .ensures) (c .before .entry-size .ensures))
+
+same-length : tie.Need-same-length
+same-length c = search needs
+
+returns : tie.Need-returns
+returns c =
+    let a = c .before .before .before .before .before .before .before .args in
+    let h =
+    lent (c .before .before .before .before .before .before .before .pre)
+    (c .before .before .before .before .before .entry-place .ensures)
+    (c .before .before .before .before .entry-size .ensures) in
+    let host = hostOf (a .n) (words (a .entries .now)) in
+    let stored = storedRecordsOf (a .n) (words (a .entries .now)) in
+    let p = c .before .before .submit-entry .last .0 in
+    let k = c .before .before .submit-entry .kept .0 in
+    let post = c .before .before .submit-entry .ensures in
+    let mark = post .1 .1 .1 .0 ∙ ap (λ e. submitted e (a .member) (a .count)) (entry-lent h) in
+    let kept = post .1 .1 .1 .1 ∙ stored-lent h in (
+      post .0,
+      (
+        post .1 .0 ∙ ap (λ e. e .newest) (entry-lent h),
+        (
+          post .1 .1 .0 ∙ stored-lent h,
+          (
+            host-changed h p k ∙ ap (put host (a .slot)) mark,
+            stored-changed h p k ∙ ap (put stored (a .slot)) kept ∙ put-same stored (a .slot),
+          ),
+        ),
+      ),
+    )
+
+pub submit-spec : {M : Type 1} → statement M
+submit-spec =
+    tie.close
+    (tie.spec
+    entry-place-requires
+    entry-size-requires
+    add-end
+    mul-submit-entry
+    sub-submit-entry
+    part-submit-entry-start
+    part-submit-entry-end
+    submit-entry-requires
+    same-length
+    returns)

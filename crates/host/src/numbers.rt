@@ -1,0 +1,60 @@
+// The number that a submit or a commit is answered with: the grounds in their order, 0 where none holds.
+ghost use mathlib.Core.Path.{_≡_};
+ghost use Prim.Native.Nat.{_≤_};
+ghost use lib.ListN.{length};
+ghost use Rattle.lists.specs.Parts.{words};
+ghost use Rattle.model.specs.Kinds.{concur};
+ghost use Rattle.model.specs.Table.{hostOf, storedRecordsOf, entriesNumber};
+ghost use Rattle.model.specs.Halves.{hostNumber};
+ghost use Rattle.host.specs.Needs.{fieldsNumber};
+use crate::layout::host_size;
+use crate::steps::sound_entries;
+use records::is_barred;
+use records::is_numbered;
+use records::is_operation;
+
+// 2 and 3: the entries' length and their fields.
+fn entries_number(entries: &[u32], n: u32) -> u32
+    requires { ⌜ n ≤ 12 ⌝ }
+    ensures { λ r. ⌜ r ≡ entriesNumber n (length (now (entries .entry))) (hostOf n (words (now (entries .entry)))) (storedRecordsOf n (words (now (entries .entry)))) ⌝ }
+{
+    if entries.len() != host_size(n as usize) {
+        return 2;
+    }
+    if !sound_entries(entries, n) {
+        return 3;
+    }
+    0
+}
+
+// 4 to 7: the fields of a submit or of a record.
+fn fields_number(n: u32, member: u32, slot: u32, operation: u32) -> u32
+    ensures { λ r. ⌜ r ≡ fieldsNumber n member slot operation ⌝ }
+{
+    if !is_numbered(member, n) {
+        return 4;
+    }
+    if !is_numbered(slot, n) {
+        return 5;
+    }
+    if !is_operation(operation) {
+        return 6;
+    }
+    if is_barred(member, slot, operation) {
+        return 7;
+    }
+    0
+}
+
+pub fn host_number(entries: &[u32], n: u32, member: u32, slot: u32, operation: u32) -> u32
+    ensures { λ r. ⌜ r ≡ hostNumber concur n (now (entries .entry)) member slot operation ⌝ }
+{
+    if !is_numbered(n, 12) {
+        return 1;
+    }
+    let number = entries_number(entries, n);
+    if number != 0 {
+        return number;
+    }
+    fields_number(n, member, slot, operation)
+}

@@ -1,0 +1,62 @@
+// The host's steps without their tests, in place on the n host entries, and the check of the entries.
+ghost use mathlib.Core.Path.{_≡_};
+ghost use Rattle.lists.specs.Functions.{put};
+ghost use Rattle.lists.specs.Parts.{words};
+ghost use Rattle.model.specs.Kinds.{concur};
+ghost use Rattle.model.specs.Records.{recordWithin};
+ghost use Rattle.model.specs.Host.{submitted, wins, entryAfter, storedAfter};
+ghost use Rattle.model.specs.Table.{hostOf, storedRecordsOf, soundHost};
+ghost use Rattle.records.specs.Meaning.{recordIn};
+ghost use Rattle.host.specs.Needs.{Entries, Slot};
+use crate::Reply;
+use crate::entry::commit_entry;
+use crate::entry::sound_entry;
+use crate::entry::submit_entry;
+use crate::layout::entry_place;
+use crate::layout::entry_size;
+use records::Record;
+
+// A submit of member with its count, noted as the slot's newest; the reply is the slot's newest and stored records.
+pub fn submit(entries: &mut [u32], n: usize, member: u32, slot: u32, count: u32) -> Reply
+    requires { ⌜ Slot n slot (now entries) ⌝ }
+    ensures { λ r. ⌜ r .number ≡ 0 ⌝ }
+    ensures { λ r. ⌜ recordIn (r .newest) ≡ hostOf n (words (now (entries .entry))) slot .newest ⌝ }
+    ensures { λ r. ⌜ recordIn (r .stored) ≡ storedRecordsOf n (words (now (entries .entry))) slot ⌝ }
+    ensures { λ r. ⌜ hostOf n (words (now (entries .exit))) ≡ put (hostOf n (words (now (entries .entry)))) slot (submitted (hostOf n (words (now (entries .entry))) slot) member count) ⌝ }
+    ensures { λ r. ⌜ storedRecordsOf n (words (now (entries .exit))) ≡ storedRecordsOf n (words (now (entries .entry))) ⌝ }
+{
+    let at = entry_place(n, slot as usize);
+    let end = at + entry_size(n);
+    submit_entry(&mut entries[at..end], n, member, count)
+}
+
+// A commit: whether it was accepted.
+pub fn commit(entries: &mut [u32], n: usize, committed: Record) -> bool
+    requires { ⌜ Slot n (committed .slot) (now entries) ⌝ }
+    ensures { λ r. ⌜ r ≡ wins (hostOf n (words (now (entries .entry))) (committed .slot)) (recordIn committed) ⌝ }
+    ensures { λ r. ⌜ hostOf n (words (now (entries .exit))) ≡ put (hostOf n (words (now (entries .entry)))) (committed .slot) (entryAfter (hostOf n (words (now (entries .entry))) (committed .slot)) (recordWithin n (recordIn committed))) ⌝ }
+    ensures { λ r. ⌜ storedRecordsOf n (words (now (entries .exit))) ≡ put (storedRecordsOf n (words (now (entries .entry)))) (committed .slot) (storedAfter concur (hostOf n (words (now (entries .entry))) (committed .slot)) (storedRecordsOf n (words (now (entries .entry))) (committed .slot)) (recordWithin n (recordIn committed))) ⌝ }
+{
+    let slot = committed.slot;
+    let at = entry_place(n, slot as usize);
+    let end = at + entry_size(n);
+    commit_entry(&mut entries[at..end], n, committed)
+}
+
+// The check of the n entries, number 3.
+pub fn sound_entries(entries: &[u32], n: u32) -> bool
+    requires { ⌜ Entries n (now entries) ⌝ }
+    ensures { λ r. ⌜ r ≡ soundHost n (hostOf n (words (now (entries .entry)))) (storedRecordsOf n (words (now (entries .entry)))) ⌝ }
+{
+    let size = entry_size(n as usize);
+    let mut passed = 0;
+    while passed < n {
+        let at = entry_place(n as usize, passed as usize + 1);
+        let end = at + size;
+        if !sound_entry(&entries[at..end], n) {
+            return false;
+        }
+        passed += 1;
+    }
+    true
+}

@@ -1,0 +1,107 @@
+-- What is said once of a member's block in the code's hands.
+use Prim.Native.Nat.{ℕ, _+_, _-_, _*_, _≤_, _<_}
+use native.Mathlib.Omega.{arith}
+use mathlib.Core.Path.{_≡_, refl, sym, ap, ap₂, _∙_}
+use mathlib.Core.Bool.{Bool, true, false, cond, _&&_}
+use mathlib.Core.List.{List}
+use lib.Dec.{eqb}
+use borrow.Author.Tests.{eq-eqb, ne-eqb}
+use lib.ListN.{take, drop, set, replicate}
+use Rattle.lists.specs.Functions.{put, pasted, from, within}
+use Rattle.lists.specs.Parts.{words, replaced}
+use Rattle.lists.proofs.Functions.{apart, put-at, put-off, from-from, from-pasted-at}
+use Rattle.model.specs.Records.{Rec, read, write, matrixWithin, recordWithin}
+use Rattle.model.specs.RecordWords.{valueAt, matrixAt, recordSize, rowOf, matrixOf, valueOf, recordOf}
+use Rattle.model.specs.Member.{Member, haltNumber, joined, ownRecord, passed, failed, replied, completed, dropped, tookOver, returnedBy}
+use Rattle.model.specs.Table.{phaseAt, crashedAt, haltAt, slotAt, operationAt, ownAt, acceptedAt, lastAt, pendingAt, knownAt, firstAt, secondAt, blockSize, memberOf}
+use Rattle.laws.proofs.Records.{matrixOf-same, valueOf-same}
+use Rattle.laws.proofs.Replies.{matrix-all, value-all, joined-within, haltNumber-within}
+use Rattle.laws.proofs.Steps.{Holds, holds-set, holds-copied, count-of, kept}
+use Rattle.rows.specs.declared.Row.{Row}
+use Rattle.rows.specs.Meaning.{matrixIn}
+use Rattle.records.specs.Meaning.{recordIn}
+use Rattle.records.proofs.Laws.{zero-value}
+use Rattle.member.specs.Needs.{Block, Within, Running}
+use Rattle.member.specs.Layout.{LayoutOf}
+use Rattle.member.specs.declared.layout.Places.{Places}
+use Rattle.member.specs.Results.{Taken, returnedIn}
+
+-- the block that a step is given
+pub whole : {n : ℕ} {l : List ℕ} → Block n l → Holds (blockSize n) l (words l)
+whole b = record { long = b .long; same = refl }
+
+-- An accepted operation: its count and its matrix taken over, then for a write its value.
+
+-- the block after the count was stored and the matrix copied
+pub kept-held : {n : ℕ} {l : List ℕ} {at : Places} → Running n l → LayoutOf n at → (m : List ℕ)
+    → let o = set l (at .accepted + words l slotAt - 1) (words l (ownAt + words l slotAt - 1)) in
+    m ≡ replaced o (at .known) (take (n * n) (drop (at .first + matrixAt) o))
+    → Holds (blockSize n) m (kept n (words l))
+unfolding blockSize secondAt firstAt knownAt pendingAt lastAt acceptedAt recordSize memberOf
+kept-held {n} {l} {at} r lay m e =
+    let w = words l in
+    let o = holds-set (whole (r .block)) (at .accepted + w slotAt - 1) (w (ownAt + w slotAt - 1)) (omega arith) in
+    let h = holds-copied o m (at .known) (at .first + matrixAt) (n * n) e (omega arith) (omega arith) in
+    record { long = h .long; same = h .same ∙ rw (lay .accepted, lay .known, lay .first) }
+
+-- what `completed` does: take over, then drop
+pub completed-by : (m : Member) → completed m ≡ dropped (tookOver m)
+unfolding completed dropped tookOver
+completed-by m = refl
+
+-- The record that a member commits, as the code builds it, and what taking a reply comes to.
+
+pub own-built : (n i : ℕ) (w : ℕ → ℕ) (newest : Rec) (value : List ℕ) (known matrix : List Row) → Within n i → Within n (w slotAt)
+    → valueOf (words value) ≡ valueOf (from w (pendingAt n)) → matrixIn known ≡ matrixOf n (from w (knownAt n))
+    → let count = w (ownAt + w slotAt - 1) in
+    matrixWithin n (matrixIn matrix) ≡ matrixWithin n (joined n i (w slotAt) count (matrixIn known) (newest .matrix))
+    → recordWithin n (recordIn (record { member = i; slot = w slotAt; operation = w operationAt; count = count; value = value; matrix = matrix }))
+    ≡ ownRecord n i (memberOf n w) (recordWithin n newest)
+unfolding recordIn recordWithin ownRecord memberOf
+own-built n i w newest value known matrix a b e k f = λ t. record {
+  member = i;
+  slot = w slotAt;
+  operation = w operationAt;
+  count = same t;
+  value = (ap (within 8 0) e ∙ value-all (from w (pendingAt n))) t;
+  matrix = (f
+      ∙ joined-within n i (w slotAt) (w (ownAt + w slotAt - 1)) (matrixIn known) (newest .matrix) (a .least) (a .most) (b .least) (b .most)
+      ∙ ap₂ (λ c m. joined n i (w slotAt) c m (matrixWithin n (newest .matrix))) same (ap (matrixWithin n) k ∙ matrix-all n (from w (knownAt n)))) t;
+}
+  where
+    same : w (ownAt + w slotAt - 1) ≡ rowOf n (from w ownAt) (w slotAt)
+    same = sym (count-of n w ownAt (w slotAt) (b .least) (b .most))
+
+module _ {n i : ℕ} {l : List ℕ} (running : Running n l) (member : Within n i) (newest stored : Rec) (seals number : ℕ)
+    (e : number ≡ haltNumber n i (memberOf n (words l)) newest stored seals) where
+  halted : number ≡ haltNumber n i (memberOf n (words l)) (recordWithin n newest) (recordWithin n stored) seals
+  halted =
+      let r = running .slot in
+      e ∙ sym (haltNumber-within n i (memberOf n (words l)) newest stored seals (member .least) (member .most) (r .least) (r .most))
+
+  pub replied-failed : (number ≡ 0 → ⊥)
+      → replied n i (memberOf n (words l)) (recordWithin n newest) (recordWithin n stored) seals ≡ failed (memberOf n (words l)) number
+  unfolding replied
+  replied-failed h = rw (← halted, ne-eqb number 0 h)
+
+  pub replied-passed : number ≡ 0
+      → replied n i (memberOf n (words l)) (recordWithin n newest) (recordWithin n stored) seals
+      ≡ passed n i (memberOf n (words l)) (recordWithin n newest) (recordWithin n stored)
+  unfolding replied
+  replied-passed h = rw (← halted, eq-eqb number 0 h)
+
+-- What taking an outcome hands back.
+
+pub second-value : (n : ℕ) (w : ℕ → ℕ) → valueOf (from w (secondAt n + valueAt)) ≡ memberOf n w .second .value
+unfolding memberOf recordOf
+second-value n w = ap valueOf (sym (from-from w (secondAt n) valueAt))
+
+pub none-taken : (m : Member) (won : Bool) → (won && eqb (m .operation) read) ≡ false
+    → Taken (record { number = 0; returned = false; value = replicate 8 0 }) (returnedBy m won)
+unfolding returnedBy returnedIn
+none-taken m won h = record { number = refl; value = rw h; blank = λ e. zero-value }
+
+pub value-taken : (m : Member) (value : List ℕ) → eqb (m .operation) read ≡ true → valueOf (words value) ≡ m .second .value
+    → Taken (record { number = 0; returned = true; value = value }) (returnedBy m true)
+unfolding returnedBy returnedIn
+value-taken m value h e = record { number = refl; value = rw (h, e); blank = λ d. absurd (apart refl d) }

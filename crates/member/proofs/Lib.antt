@@ -1,0 +1,5 @@
+pub mod Tests
+pub mod Matrices
+pub mod Sizes
+pub mod Refusals
+pub mod Laws

@@ -1,0 +1,105 @@
+-- `check_26` meets its contract: each row passed is the slot's, or known and newest are comparable there. Assumes nothing.
+use borrow.Author.Needs.{needs}
+use Prim.Native.Nat.{ℕ, _+_, _-_, _≤_, _<_, min}
+use mathlib.Core.Path.{_≡_, refl}
+use mathlib.Core.Bool.{Bool, true, _||_}
+use mathlib.Core.List.{List}
+use native.Mathlib.Omega.{arith}
+use lib.Dec.{eqb}
+use lib.ListN.{getD}
+use Rattle.lists.specs.Functions.{each}
+use Rattle.lists.proofs.Functions.{each-none}
+use Rattle.model.specs.Rows.{comparable}
+use Rattle.model.specs.Member.{check26}
+use Rattle.rows.specs.declared.Row.{Row}
+use Rattle.rows.specs.Meaning.{rowIn, matrixIn, noRow}
+use Rattle.rows.proofs.Laws.{row-at}
+use Rattle.member.proofs.Tests.{stops, goes-on, ends}
+use Rattle.member.proofs.checks.check_26.Statement.{statement}
+use Rattle.member.proofs.checks.check_26.Tie as tie
+
+abbrev test : ℕ → ℕ → List Row → List Row → ℕ → Bool
+test n i known newest j = eqb j i || comparable n (matrixIn known j) (matrixIn newest j)
+
+tested : (n i : ℕ) (known newest : List Row) (j : ℕ) → n ≤ 12 → j < 12
+    → {r : Bool} → r ≡ (eqb (j + 1) i || comparable (min n 12) (rowIn (getD known j noRow)) (rowIn (getD newest j noRow)))
+    → r ≡ test n i known newest (j + 1)
+tested n i known newest j p h e =
+    let m : min n 12 ≡ n = omega arith in
+    rw (row-at known j h, row-at newest j h) (rw m at e)
+
+abbrev Inv-loop : tie.InvT-loop
+Inv-loop n slot known newest j₀ j = (j ≤ n) × (each j (test n slot known newest) ≡ true)
+
+abbrev μ-loop : tie.MeasureT-loop
+μ-loop n slot known newest j₀ j = n - j
+
+loop-holds : tie.Need-loop-holds Inv-loop μ-loop
+loop-holds c = (search needs, each-none _)
+
+add-in-order : tie.Need-add-in-order Inv-loop μ-loop
+add-in-order c = search needs
+
+mul-in-order : tie.Need-mul-in-order Inv-loop μ-loop
+mul-in-order c = search needs
+
+array-copy-out-in-order : tie.Need-array-copy-out-in-order Inv-loop μ-loop
+array-copy-out-in-order c = search needs
+
+mul-in-order-2 : tie.Need-mul-in-order-2 Inv-loop μ-loop
+mul-in-order-2 c = search needs
+
+array-copy-out-in-order-2 : tie.Need-array-copy-out-in-order-2 Inv-loop μ-loop
+array-copy-out-in-order-2 c = search needs
+
+in-order-requires : tie.Need-in-order-requires Inv-loop μ-loop
+in-order-requires c κs = search needs
+
+returns : tie.Need-returns Inv-loop μ-loop
+unfolding check26
+returns c =
+    let g = (c .before .before .before .before .before .before .args) in
+    let l = (c .before .before .before .before .before .loop) in
+    stops (g .n) (test (g .n) (g .slot) (g .t1) (g .t2)) (l .j) (omega arith)
+    (tested (g .n) (g .slot) (g .t1) (g .t2) (l .j) (omega arith) (omega arith) (c .before .in-order .ensures)) (c .if1 .taken)
+
+add-j : tie.Need-add-j Inv-loop μ-loop
+add-j c = search needs
+
+loop-less : tie.Need-loop-less Inv-loop μ-loop
+loop-less c = search needs
+
+loop-again : tie.Need-loop-again Inv-loop μ-loop
+loop-again c =
+    let g = (c .before .before .before .before .before .before .args) in
+    let l = (c .before .before .before .before .before .loop) in (
+      search needs,
+      goes-on (g .n) (test (g .n) (g .slot) (g .t1) (g .t2)) (l .j) (l .inv .1)
+          (tested (g .n) (g .slot) (g .t1) (g .t2) (l .j) (omega arith) (omega arith) (c .before .in-order .ensures)) (c .if1 .left),
+    )
+
+returns-2 : tie.Need-returns-2 Inv-loop μ-loop
+unfolding check26
+returns-2 c =
+    let g = (c .before .before .args) in
+    let l = (c .before .loop) in
+    ends (g .n) (test (g .n) (g .slot) (g .t1) (g .t2)) (l .j) (omega arith) (l .inv .1)
+
+pub check-26-spec : {M : Type 1} → statement M
+check-26-spec =
+    tie.close
+    (tie.spec
+    Inv-loop
+    μ-loop
+    loop-holds
+    add-in-order
+    mul-in-order
+    array-copy-out-in-order
+    mul-in-order-2
+    array-copy-out-in-order-2
+    in-order-requires
+    returns
+    add-j
+    loop-less
+    loop-again
+    returns-2)

@@ -1,0 +1,116 @@
+-- `check_27` meets its contract: each row passed is the slot's, or the newest entry for the member is not above the accepted count. Assumes nothing.
+use borrow.Author.Needs.{needs}
+use Prim.Native.Nat.{ℕ, _+_, _-_, _≤_, _<_}
+use mathlib.Core.Path.{_≡_, refl}
+use mathlib.Core.Bool.{Bool, true, _||_}
+use mathlib.Core.List.{List}
+use native.Mathlib.Omega.{arith}
+use lib.Dec.{eqb, leb}
+use lib.ListN.{getD}
+use Rattle.lists.specs.Functions.{each}
+use Rattle.lists.specs.Parts.{words}
+use Rattle.lists.proofs.Functions.{each-none}
+use Rattle.model.specs.Member.{check27}
+use Rattle.rows.specs.declared.Row.{Row}
+use Rattle.rows.specs.Meaning.{rowIn, matrixIn, noRow}
+use Rattle.rows.proofs.Laws.{count-at, row-at}
+use Rattle.member.proofs.Tests.{stops, goes-on, ends}
+use Rattle.member.proofs.Matrices.{count-of}
+use Rattle.member.proofs.checks.check_27.Statement.{statement}
+use Rattle.member.proofs.checks.check_27.Tie as tie
+
+abbrev test : ℕ → ℕ → Row → List Row → ℕ → Bool
+test i r accepted newest j = eqb j r || leb (matrixIn newest j i) (rowIn accepted j)
+
+tested : (i r : ℕ) (accepted : Row) (newest : List Row) (j : ℕ) → 1 ≤ i → i ≤ 12 → j < 12
+    → {b : Bool} → b ≡ (eqb (j + 1) r || leb (words (getD newest j noRow .counts) (i - 1)) (words (accepted .counts) j))
+    → b ≡ test i r accepted newest (j + 1)
+tested i r accepted newest j p q h e = rw (row-at newest j h, count-of (getD newest j noRow) i p q, count-at accepted j h) e
+
+abbrev Inv-loop : tie.InvT-loop
+Inv-loop n member slot accepted newest at j₀ j = (j ≤ n) × (each j (test member slot accepted newest) ≡ true)
+
+abbrev μ-loop : tie.MeasureT-loop
+μ-loop n member slot accepted newest at j₀ j = n - j
+
+sub-at : tie.Need-sub-at Inv-loop μ-loop
+sub-at c = search needs
+
+loop-holds : tie.Need-loop-holds Inv-loop μ-loop
+loop-holds c = (search needs, each-none _)
+
+mul-row : tie.Need-mul-row Inv-loop μ-loop
+mul-row c = search needs
+
+array-copy-out-row : tie.Need-array-copy-out-row Inv-loop μ-loop
+array-copy-out-row c = search needs
+
+add-not-above : tie.Need-add-not-above Inv-loop μ-loop
+add-not-above c = search needs
+
+mul-not-above : tie.Need-mul-not-above Inv-loop μ-loop
+mul-not-above c = search needs
+
+element-copy-out-not-above : tie.Need-element-copy-out-not-above Inv-loop μ-loop
+element-copy-out-not-above c = search needs
+
+mul-not-above-2 : tie.Need-mul-not-above-2 Inv-loop μ-loop
+mul-not-above-2 c = search needs
+
+element-copy-out-not-above-2 : tie.Need-element-copy-out-not-above-2 Inv-loop μ-loop
+element-copy-out-not-above-2 c = search needs
+
+not-above-requires : tie.Need-not-above-requires Inv-loop μ-loop
+not-above-requires c κs = search needs
+
+returns : tie.Need-returns Inv-loop μ-loop
+unfolding check27
+returns c =
+    let g = (c .before .before .before .before .before .before .before .args) in
+    let l = (c .before .before .before .before .before .before .loop) in
+    stops (g .n) (test (g .member) (g .slot) (g .t1) (g .t2)) (l .j) (omega arith)
+    (tested (g .member) (g .slot) (g .t1) (g .t2) (l .j) (omega arith) (omega arith) (omega arith) (c .before .not-above .ensures)) (c .if1 .taken)
+
+add-j : tie.Need-add-j Inv-loop μ-loop
+add-j c = search needs
+
+loop-less : tie.Need-loop-less Inv-loop μ-loop
+loop-less c = search needs
+
+loop-again : tie.Need-loop-again Inv-loop μ-loop
+loop-again c =
+    let g = (c .before .before .before .before .before .before .before .args) in
+    let l = (c .before .before .before .before .before .before .loop) in (
+      search needs,
+      goes-on (g .n) (test (g .member) (g .slot) (g .t1) (g .t2)) (l .j) (l .inv .1)
+          (tested (g .member) (g .slot) (g .t1) (g .t2) (l .j) (omega arith) (omega arith) (omega arith) (c .before .not-above .ensures)) (c .if1 .left),
+    )
+
+returns-2 : tie.Need-returns-2 Inv-loop μ-loop
+unfolding check27
+returns-2 c =
+    let g = (c .before .before .args) in
+    let l = (c .before .loop) in
+    ends (g .n) (test (g .member) (g .slot) (g .t1) (g .t2)) (l .j) (omega arith) (l .inv .1)
+
+pub check-27-spec : {M : Type 1} → statement M
+check-27-spec =
+    tie.close
+    (tie.spec
+    Inv-loop
+    μ-loop
+    sub-at
+    loop-holds
+    mul-row
+    array-copy-out-row
+    add-not-above
+    mul-not-above
+    element-copy-out-not-above
+    mul-not-above-2
+    element-copy-out-not-above-2
+    not-above-requires
+    returns
+    add-j
+    loop-less
+    loop-again
+    returns-2)

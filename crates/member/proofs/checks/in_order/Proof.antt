@@ -1,0 +1,17 @@
+-- `in_order` meets its contract. Assumes nothing.
+use borrow.Author.Needs.{needs}
+use mathlib.Core.Path.{refl}
+use Rattle.member.proofs.checks.in_order.Statement.{statement}
+use Rattle.member.proofs.checks.in_order.Tie as tie
+
+returns : tie.Need-returns
+returns c = rw (c .if1 .taken)
+
+comparable-requires : tie.Need-comparable-requires
+comparable-requires c κs = search needs
+
+returns-2 : tie.Need-returns-2
+returns-2 c = rw (c .before .if1 .left) (c .comparable .ensures)
+
+pub in-order-spec : {M : Type 1} → statement M
+in-order-spec = tie.close (tie.spec returns comparable-requires returns-2)

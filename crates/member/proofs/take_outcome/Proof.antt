@@ -1,0 +1,41 @@
+-- `take_outcome` meets its contract. Assumes nothing.
+use borrow.Author.Needs.{needs}
+use mathlib.Core.Path.{sym, _∙_}
+use Rattle.model.specs.Halves.{outcomeReturns, outcomeWords}
+use Rattle.member.specs.Results.{returnedIn}
+use Rattle.member.proofs.Refusals.{outcome-good, unchanged, made, words-made}
+use Rattle.member.proofs.take_outcome.Statement.{statement}
+use Rattle.member.proofs.take_outcome.Tie as tie
+
+outcome-number-requires : tie.Need-outcome-number-requires
+outcome-number-requires c κs = search needs
+
+same-length : tie.Need-same-length
+same-length c = search needs
+
+returns : tie.Need-returns
+unfolding outcomeReturns outcomeWords returnedIn
+returns c =
+    let e = c .before .outcome-number .ensures in
+    (e, (unchanged _ _ e (c .if1 .taken), unchanged _ _ e (c .if1 .taken)))
+
+finish-requires : tie.Need-finish-requires
+finish-requires c κs =
+    let a = (c .before .before .before .before .before .args) in
+    outcome-good (a .n) (a .member) (a .block .now) (a .result) (sym (c .before .before .outcome-number .ensures) ∙ c .before .if1 .left)
+
+same-length-2 : tie.Need-same-length-2
+same-length-2 c = search needs
+
+returns-2 : tie.Need-returns-2
+unfolding outcomeReturns outcomeWords returnedIn
+returns-2 c =
+    let a = (c .before .before .before .before .before .before .before .before .before .args) in
+    let e = sym (c .before .before .before .before .before .before .outcome-number .ensures) ∙ c .before .before .before .before .before .if1 .left in
+    let l = c .before .before .before .finish .kept .0 ∙ outcome-good (a .n) (a .member) (a .block .now) (a .result) e .block .long in
+    (sym e, (made _ _ e (c .before .before .before .finish .ensures .0 .value), words-made (a .n) (a .block .now) (c .before .before .before .finish .last .0) _ e l (c .before .before .before .finish .ensures .1)))
+
+pub take-outcome-spec : {M : Type 1} → statement M
+take-outcome-spec =
+    tie.close
+    (tie.spec outcome-number-requires same-length returns finish-requires same-length-2 returns-2)

@@ -1,0 +1,102 @@
+// The member half: begin, take a reply, take an outcome, crash, on the member's own part of the table.
+ghost use mathlib.Core.Path.{_≡_};
+ghost use Rattle.lists.specs.Parts.{words};
+ghost use Rattle.model.specs.Kinds.{concur};
+ghost use Rattle.model.specs.Records.{recordWithin};
+ghost use Rattle.model.specs.RecordWords.{valueOf};
+ghost use Rattle.model.specs.Halves.{memberBeginNumber, memberBeginWords, replyNumber, replyWords, outcomeNumber, outcomeWords, outcomeReturns, memberCrashNumber, memberCrashWords};
+ghost use Rattle.records.specs.Meaning.{recordIn};
+ghost use Rattle.member.specs.Results.{returnedIn};
+
+pub mod answers;
+pub mod blocks;
+mod checks;
+mod layout;
+mod numbers;
+pub mod steps;
+
+use numbers::begin_number;
+use numbers::crash_number;
+use numbers::outcome_number;
+use numbers::reply_number;
+use records::Record;
+
+// What taking an outcome hands back: its number, and whether a value is returned, and which; zero where there is none.
+pub struct Outcome {
+    pub number: u32,
+    pub returned: bool,
+    pub value: [u32; 8],
+}
+
+pub fn begin(
+    block: &mut [u32],
+    n: u32,
+    member: u32,
+    slot: u32,
+    operation: u32,
+    value: [u32; 8],
+) -> u32
+    ensures { λ r. ⌜ r ≡ memberBeginNumber concur n member (now (block .entry)) slot operation ⌝ }
+    ensures { λ r. ⌜ now (block .exit) ≡ memberBeginWords concur n member (now (block .entry)) slot operation (valueOf (words value)) ⌝ }
+{
+    let number = begin_number(block, n, member, slot, operation);
+    if number != 0 {
+        return number;
+    }
+    steps::begin(block, n as usize, slot, operation, value);
+    0
+}
+
+pub fn take_reply(
+    block: &mut [u32],
+    n: u32,
+    member: u32,
+    newest: Record,
+    stored: Record,
+    seals: u32,
+) -> u32
+    ensures { λ r. ⌜ r ≡ replyNumber concur n member (now (block .entry)) (recordWithin n (recordIn newest)) (recordWithin n (recordIn stored)) seals ⌝ }
+    ensures { λ r. ⌜ now (block .exit) ≡ replyWords concur n member (now (block .entry)) (recordWithin n (recordIn newest)) (recordWithin n (recordIn stored)) seals ⌝ }
+{
+    let number = reply_number(block, n, member, newest, stored, seals);
+    if number != 0 {
+        return number;
+    }
+    steps::reply(block, n as usize, member, newest, stored, seals);
+    0
+}
+
+pub fn take_outcome(block: &mut [u32], n: u32, member: u32, result: u32) -> Outcome
+    ensures { λ r. ⌜ r .number ≡ outcomeNumber concur n member (now (block .entry)) result ⌝ }
+    ensures { λ r. ⌜ returnedIn r ≡ outcomeReturns concur n member (now (block .entry)) result ⌝ }
+    ensures { λ r. ⌜ now (block .exit) ≡ outcomeWords concur n member (now (block .entry)) result ⌝ }
+{
+    let number = outcome_number(block, n, member, result);
+    if number != 0 {
+        return Outcome {
+            number,
+            returned: false,
+            value: [0; 8],
+        };
+    }
+    let done = steps::finish(block, n as usize, result == 1);
+    let returned = done.returned;
+    let value = done.value;
+    Outcome {
+        number: 0,
+        returned,
+        value,
+    }
+}
+
+pub fn crash(block: &mut [u32], n: u32, member: u32) -> u32
+    ensures { λ r. ⌜ r ≡ memberCrashNumber concur n member (now (block .entry)) ⌝ }
+    ensures { λ r. ⌜ now (block .exit) ≡ memberCrashWords concur n member (now (block .entry)) ⌝ }
+{
+    let number = crash_number(block, n, member);
+    if number != 0 {
+        return number;
+    }
+    steps::mark_crashed(block, n as usize);
+    0
+}

@@ -1,0 +1,124 @@
+// The numbers that refuse a call on a member's block, in document 01's order.
+ghost use mathlib.Core.Path.{_≡_};
+ghost use mathlib.Core.Bool.{cond};
+ghost use Rattle.lists.specs.Parts.{words};
+ghost use Rattle.model.specs.Kinds.{concur};
+ghost use Rattle.model.specs.Records.{recordWithin};
+ghost use Rattle.model.specs.Table.{memberOf};
+ghost use Rattle.model.specs.Halves.{orElse, notWaiting, memberNumber, memberBeginNumber, replyNumber, outcomeNumber, memberCrashNumber};
+ghost use Rattle.records.specs.Meaning.{recordIn};
+use crate::answers::begin_answer;
+use crate::answers::crash_answer;
+use crate::blocks::own_count;
+use crate::blocks::sound_block;
+use crate::layout::CRASHED_AT;
+use crate::layout::PHASE_AT;
+use crate::layout::layout;
+use records::Record;
+use records::is_numbered;
+
+// 1, 2, 3, 4: the board's size, the block, the member.
+fn member_number(block: &[u32], n: u32, member: u32) -> u32
+    ensures { λ r. ⌜ r ≡ memberNumber concur n member (now (block .entry)) ⌝ }
+{
+    if !is_numbered(n, 12) {
+        return 1;
+    }
+    let at = layout(n as usize);
+    let size = at.size;
+    if block.len() != size {
+        return 2;
+    }
+    if !sound_block(block, n, member) {
+        return 3;
+    }
+    if !is_numbered(member, n) {
+        return 4;
+    }
+    0
+}
+
+pub fn begin_number(block: &[u32], n: u32, member: u32, slot: u32, operation: u32) -> u32
+    ensures { λ r. ⌜ r ≡ memberBeginNumber concur n member (now (block .entry)) slot operation ⌝ }
+{
+    let number = member_number(block, n, member);
+    if number != 0 {
+        return number;
+    }
+    let count = own_count(block, n, slot);
+    begin_answer(
+        n,
+        block[PHASE_AT],
+        block[CRASHED_AT],
+        count,
+        member,
+        slot,
+        operation,
+    )
+}
+
+// 1 to 4, and 10: the member is in another phase than the message needs, or has crashed.
+fn waiting_number(block: &[u32], n: u32, member: u32, phase: u32) -> u32
+    ensures { λ r. ⌜ r ≡ orElse (memberNumber concur n member (now (block .entry))) (cond (notWaiting phase (memberOf n (words (now (block .entry))))) 10 0) ⌝ }
+{
+    let number = member_number(block, n, member);
+    if number != 0 {
+        return number;
+    }
+    if block[PHASE_AT] != phase {
+        return 10;
+    }
+    if block[CRASHED_AT] != 0 {
+        return 10;
+    }
+    0
+}
+
+pub fn reply_number(
+    block: &[u32],
+    n: u32,
+    member: u32,
+    newest: Record,
+    stored: Record,
+    seals: u32,
+) -> u32
+    ensures { λ r. ⌜ r ≡ replyNumber concur n member (now (block .entry)) (recordWithin n (recordIn newest)) (recordWithin n (recordIn stored)) seals ⌝ }
+{
+    let number = waiting_number(block, n, member, 1);
+    if number != 0 {
+        return number;
+    }
+    if 3 < seals {
+        return 15;
+    }
+    if !newest.fits(n) {
+        return 15;
+    }
+    if !stored.fits(n) {
+        return 15;
+    }
+    0
+}
+
+pub fn outcome_number(block: &[u32], n: u32, member: u32, result: u32) -> u32
+    ensures { λ r. ⌜ r ≡ outcomeNumber concur n member (now (block .entry)) result ⌝ }
+{
+    let number = waiting_number(block, n, member, 3);
+    if number != 0 {
+        return number;
+    }
+    if !is_numbered(result, 2) {
+        return 15;
+    }
+    0
+}
+
+pub fn crash_number(block: &[u32], n: u32, member: u32) -> u32
+    ensures { λ r. ⌜ r ≡ memberCrashNumber concur n member (now (block .entry)) ⌝ }
+{
+    let number = member_number(block, n, member);
+    if number != 0 {
+        return number;
+    }
+    crash_answer(n, block[PHASE_AT], block[CRASHED_AT], member)
+}
