@@ -13,5 +13,6 @@ pub mod RecordWords
 pub mod Table
 pub mod Halves
 pub mod TableCalls
+pub mod Script
 pub mod Published
 pub mod PublishedClaims

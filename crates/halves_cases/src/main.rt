@@ -1,0 +1,82 @@
+// The cases P9, P10 and P11 of document 01 on the two halves as they run; what is printed is compared with the file stdout.
+use records::Record;
+use rows::Row;
+
+// A line of three numbers.
+fn line(a: u32, b: u32, c: u32) {
+    io::print_decimal(1, a as u64);
+    io::write_all(1, b" ");
+    io::print_decimal(1, b as u64);
+    io::write_all(1, b" ");
+    io::print_decimal(1, c as u64);
+    io::write_all(1, b"\n");
+}
+
+// P9: own count 4,294,967,294 begins; once idle again, 9. Each line: the answer, the phase, the own count.
+fn p9() {
+    let mut block = [0u32; 61];
+    block[5] = 4294967294;
+    let begun = member::begin(&mut block, 2, 1, 1, 2, [0; 8]);
+    line(begun, block[0], block[5]);
+    let replied = member::take_reply(&mut block, 2, 1, Record::opening(1), Record::opening(1), 3);
+    line(replied, block[0], block[5]);
+    let ended = member::take_outcome(&mut block, 2, 1, 2);
+    line(ended.number, block[0], block[5]);
+    let again = member::begin(&mut block, 2, 1, 1, 2, [0; 8]);
+    line(again, block[0], block[5]);
+}
+
+// P10: a crash in phase 3: the host still takes the commit and accepts it, the member takes no outcome.
+fn p10() {
+    let mut block = [0u32; 61];
+    let mut entries = [0u32; 68];
+    entries[2] = 1;
+    entries[3] = 1;
+    entries[4] = 2;
+    entries[18] = 1;
+    entries[19] = 1;
+    entries[20] = 2;
+    let begun = member::begin(&mut block, 2, 1, 1, 2, [0, 0, 0, 0, 0, 0, 0, 77]);
+    line(begun, block[0], block[5]);
+    let reply = host::take_submit(&mut entries, 2, 1, 1, 2, 1);
+    let newest = reply.newest;
+    let stored = reply.stored;
+    line(reply.number, entries[0], entries[1]);
+    let replied = member::take_reply(&mut block, 2, 1, newest, stored, 3);
+    line(replied, block[0], block[41]);
+    let crashed = member::crash(&mut block, 2, 1);
+    line(crashed, block[0], block[1]);
+    let row = Row::ZERO.with(1, 1);
+    let mut matrix = [Row::ZERO; 12];
+    matrix[0] = row;
+    let commit = Record {
+        member: 1,
+        slot: 1,
+        operation: 2,
+        count: 1,
+        value: [0, 0, 0, 0, 0, 0, 0, 77],
+        matrix,
+    };
+    let verdict = host::take_commit(&mut entries, 2, commit);
+    line(verdict.number, verdict.outcome, entries[13]);
+    let ended = member::take_outcome(&mut block, 2, 1, 1);
+    line(ended.number, block[0], block[1]);
+}
+
+// P11: member 1 reading slot 2, known row 2 (0,2), newest (0,1): halt 22. Each line: the answer, the phase, the halt number.
+fn p11() {
+    let mut block = [0u32; 61];
+    block[28] = 2;
+    let begun = member::begin(&mut block, 2, 1, 2, 1, [0; 8]);
+    line(begun, block[0], block[2]);
+    let mut newest = Record::opening(2);
+    newest.matrix[1] = Row::ZERO.with(2, 1);
+    let replied = member::take_reply(&mut block, 2, 1, newest, Record::opening(2), 3);
+    line(replied, block[0], block[2]);
+}
+
+fn main() {
+    p9();
+    p10();
+    p11();
+}

@@ -1,0 +1,5 @@
+pub mod Reading
+pub mod Digits
+pub mod Printing
+pub mod Lines
+pub mod Scripts

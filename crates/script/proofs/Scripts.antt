@@ -1,0 +1,38 @@
+-- Every example holds: both sides are computed. Assumes nothing.
+use mathlib.Core.Path.{refl}
+use Rattle.model.specs.Demand3.{Every}
+use Rattle.model.specs.Rows.{zeroRow, zeroMatrix, below, matrixBelow, comparable, larger, withCount}
+use Rattle.model.specs.Records.{zeroValue, opening, zeroRecord, recordWithin}
+use Rattle.model.specs.Kinds.{isOperation, barred, becomesStored}
+use Rattle.model.specs.Numbers.{beginAnswer, deliverAnswer, crashAnswer}
+use Rattle.model.specs.Member.{idle, begun, answered, check21, check22, check23, check24, check25, check26, check27, haltNumber, joined, ownRecord, passed, failed, replied, judged, completed, dropped, outcome, returnedBy, crashedOf}
+use Rattle.model.specs.Host.{submitted, wins, entryAfter, storedAfter}
+use Rattle.model.specs.Board.{noEntry, openingEntry, opened, withMember, boardBegun, submitTaken, replyTaken, sentRecord, commitTaken, outcomeTaken, boardDelivered, boardReturned, boardCrashed}
+use Rattle.model.specs.Runs.{answerOf, done, doneReturns, after, seenAt, run}
+use Rattle.model.specs.RecordWords.{recordSize, rowOf, matrixOf, valueOf, recordOf, matrixWord, recordWords}
+use Rattle.model.specs.Table.{acceptedAt, lastAt, pendingAt, knownAt, firstAt, secondAt, blockSize, newestAt, entrySize, hostSize, blockAt, hostAt, entryAt, tableSize, memberOf, entryOf, storedOf, membersOf, hostOf, storedRecordsOf, boardOf, memberWords, entryWords, hostWords, tableWords, soundRecord, soundOperation, soundMember, soundEntry, soundHost, soundBoard, tableNumber, blockNumber, entriesNumber}
+use Rattle.model.specs.Halves.{fitRecord, memberNumber, memberBeginNumber, memberBeginWords, notWaiting, replyNumber, replyWords, outcomeNumber, outcomeWords, outcomeReturns, memberCrashNumber, memberCrashWords, hostNumber, submitWords, submitNewest, submitStored, commitNumber, commitOutcome, commitWords}
+use Rattle.model.specs.TableCalls.{openNumber, openWords, boardIn, tableAnswer, tableAfter, tableReturns, phaseWords, tableSeen, tableRun}
+use Rattle.lists.specs.Functions.{put, pasted, from, inside, within, numbered, each}
+use Rattle.lists.specs.Parts.{tabulate}
+use Rattle.lists.specs.Pieces.{place, pieces, laid}
+use Rattle.model.specs.Script.{isDigit, startsWith, before, beyond, digitsWithin, digits, digitsRead, limited, leadingZero, numberOf, oneNumber, twoNumbers, lineOf, textOf, firstOf, orDash, printedLine, boardLine, refusedLine, callOf, caller, lastWord, stepped, stepLine, withByte, linesOf, stepsPrinted, boardPrinted, linesPrinted, scriptOutput}
+use Rattle.script.specs.Examples.{Holds, examples}
+
+pub every-example : Every Holds examples
+unfolding examples zeroRow zeroMatrix below matrixBelow comparable larger withCount zeroValue opening zeroRecord recordWithin isOperation barred
+    becomesStored beginAnswer deliverAnswer crashAnswer idle begun answered check21 check22 check23 check24 check25 check26
+    check27 haltNumber joined ownRecord passed failed replied judged completed dropped outcome returnedBy crashedOf submitted
+    wins entryAfter storedAfter noEntry openingEntry opened withMember boardBegun submitTaken replyTaken sentRecord commitTaken
+    outcomeTaken boardDelivered boardReturned boardCrashed answerOf done doneReturns after seenAt run recordSize rowOf matrixOf
+    valueOf recordOf matrixWord recordWords acceptedAt lastAt pendingAt knownAt firstAt secondAt blockSize newestAt entrySize
+    hostSize blockAt hostAt entryAt tableSize memberOf entryOf storedOf membersOf hostOf storedRecordsOf boardOf memberWords
+    entryWords hostWords tableWords soundRecord soundOperation soundMember soundEntry soundHost soundBoard tableNumber
+    blockNumber entriesNumber fitRecord memberNumber memberBeginNumber memberBeginWords notWaiting replyNumber replyWords
+    outcomeNumber outcomeWords outcomeReturns memberCrashNumber memberCrashWords hostNumber submitWords submitNewest submitStored
+    commitNumber commitOutcome commitWords openNumber openWords boardIn tableAnswer tableAfter tableReturns phaseWords tableSeen
+    tableRun put pasted from inside within numbered each tabulate place pieces laid isDigit startsWith before beyond digitsWithin
+    digits digitsRead limited leadingZero numberOf oneNumber twoNumbers lineOf textOf firstOf orDash printedLine
+    boardLine refusedLine callOf caller lastWord stepped stepLine withByte linesOf stepsPrinted boardPrinted linesPrinted
+    scriptOutput
+every-example = (refl, (refl, (refl, (refl, (refl, (refl, (refl, (refl, (refl, (refl, (refl, (refl, (refl, tt)))))))))))))

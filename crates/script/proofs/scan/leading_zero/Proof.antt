@@ -1,0 +1,22 @@
+-- `leading_zero` meets its contract. Assumes nothing.
+use borrow.Author.Needs.{needs}
+use borrow.Author.Tests.{lt-ltb, le-ltb}
+use native.Mathlib.Omega.{arith}
+use lib.ListN.{length}
+use Rattle.model.specs.Script.{leadingZero}
+use Rattle.script.proofs.scan.leading_zero.Statement.{statement}
+use Rattle.script.proofs.scan.leading_zero.Tie as tie
+
+returns : tie.Need-returns
+unfolding leadingZero
+returns c = rw (le-ltb 1 (length (c .before .args .t .now)) (omega arith))
+
+shared-slice-read-result : tie.Need-shared-slice-read-result
+shared-slice-read-result c = search needs
+
+returns-2 : tie.Need-returns-2
+unfolding leadingZero
+returns-2 c = rw (lt-ltb 1 (length (c .before .before .args .t .now)) (omega arith))
+
+pub leading-zero-spec : {M : Type 1} → statement M
+leading-zero-spec = tie.close (tie.spec returns shared-slice-read-result returns-2)

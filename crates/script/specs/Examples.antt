@@ -1,0 +1,43 @@
+-- Scripts and what the program prints of them: document 01's example, and the readings of docs/DECISIONS.md.
+use Prim.Native.String.{String}
+use mathlib.Core.Path.{_≡_}
+use mathlib.Core.List.{List, [], _∷_}
+use Rattle.model.specs.Kinds.{concur}
+use Rattle.model.specs.Script.{text, scriptOutput}
+
+pub record Example : Type 0 where
+  pub input : String
+  pub output : String
+
+infix 70 _prints_
+abbrev pub _prints_ : String → String → Example
+input prints output = record { input = input; output = output }
+
+abbrev pub Holds : Example → Type 0
+Holds e = scriptOutput concur (text (e .input)) ≡ text (e .output)
+
+unfoldable pub examples : List Example
+examples =
+    -- document 01's
+    ("members 2\nwrite 1 77\ndeliver 1\ndeliver 1\ndeliver 1\ndeliver 1\nread 2 1\ndeliver 2\ndeliver 2\ndeliver 2\ndeliver 2\n"
+    prints "board 2\n1 0 1 -\n2 0 2 -\n3 0 3 -\n4 0 4 -\n5 0 0 -\n6 0 1 -\n7 0 2 -\n8 0 3 -\n9 0 4 -\n10 0 0 77\n")
+    -- the first line: form before n, every number below 2^32, no leading zeros, a line feed that may be lacking
+    ∷ ("" prints "board refused 17\n")
+    ∷ ("\n" prints "board refused 17\n")
+    ∷ ("members 4294967296\ndeliver 1\n" prints "board refused 17\n")
+    ∷ ("members 4294967295\ndeliver 1\n" prints "board refused 1\n")
+    ∷ ("members 0" prints "board refused 1\n")
+    ∷ ("members 01" prints "board refused 17\n")
+    ∷ ("members 13" prints "board refused 1\n")
+    ∷ ("members 12 " prints "board refused 17\n")
+    ∷ ("members 1" prints "board 1\n")
+    -- an empty line is a step, and so is any other of another form; the empty piece behind the last line feed is none
+    ∷ ("members 1\n\ndeliver\nwrite 1  5\nwrite 1 00\nwrite +1 5\nwrite 1 5 \nwrite 1\t5\ncrash 1\r\n"
+    prints "board 1\n1 17 - -\n2 17 - -\n3 17 - -\n4 17 - -\n5 17 - -\n6 17 - -\n7 17 - -\n8 17 - -\n")
+    -- the phase is `-` for 4 and 17 alone; 0 is a number
+    ∷ ("members 2\ndeliver 0\ndeliver 3\nread 1 3\nread 1 1\ndeliver 1\nwrite 1 0\nwrite 1 0\ncrash 1\ncrash 1"
+    prints "board 2\n1 4 - -\n2 4 - -\n3 5 0 -\n4 7 0 -\n5 10 0 -\n6 0 1 -\n7 8 1 -\n8 0 1 -\n9 11 1 -\n")
+    -- an accepted read of a slot that was never written prints 0
+    ∷ ("members 2\nread 1 2\ndeliver 1\ndeliver 1\ndeliver 1\ndeliver 1"
+    prints "board 2\n1 0 1 -\n2 0 2 -\n3 0 3 -\n4 0 4 -\n5 0 0 0\n")
+    ∷ []

@@ -1,0 +1,731 @@
+// Drives a library with the C interface beside the simulator and compares
+// the answer and every word after each call.
+// Usage: capi SECONDS [SEED]
+#![allow(dead_code)]
+
+mod board;
+mod c_lib;
+mod c_sim;
+mod messages;
+mod rng;
+
+use board::*;
+use messages::Message;
+use rng::Rng;
+use std::time::{Duration, Instant};
+
+const GUARD: u32 = 0xA5A5_A5A5; // must stay around everything lent
+const UNTOUCHED: u32 = 0x5C5C_5C5C; // what stands in `returned` before a call
+const MARGIN: usize = 40;
+
+#[derive(Clone, Debug)]
+enum Call {
+    Open { n: u32 },
+    Begin { member: u32, slot: u32, op_type: u32, value: Vec<u32> },
+    Deliver { member: u32, returned_words: usize },
+    Crash { member: u32 },
+}
+
+#[derive(Default)]
+struct Tally {
+    calls: u64,
+    words: u64,
+    opens: [u64; 18],
+    begins: [u64; 18],
+    delivers: [u64; 18],
+    crashes: [u64; 18],
+    halts: [u64; 28],
+    returned: u64,
+    messages: u64,
+    checks: [u64; 18],
+}
+
+fn fail(what: &str) -> ! {
+    println!("DIFFERENCE: {}", what);
+    std::process::exit(1);
+}
+
+fn run_lib(table: &mut [u32], call: &Call, returned: &mut [u32]) -> u32 {
+    match call {
+        Call::Open { n } => c_lib::open(table, *n),
+        Call::Begin { member, slot, op_type, value } => c_lib::begin(table, *member, *slot, *op_type, value),
+        Call::Deliver { member, .. } => c_lib::deliver(table, *member, returned),
+        Call::Crash { member } => c_lib::crash(table, *member),
+    }
+}
+
+fn run_sim(table: &mut [u32], call: &Call, returned: &mut [u32]) -> u32 {
+    match call {
+        Call::Open { n } => c_sim::open(table, *n),
+        Call::Begin { member, slot, op_type, value } => c_sim::begin(table, *member, *slot, *op_type, value),
+        Call::Deliver { member, .. } => c_sim::deliver(table, *member, returned),
+        Call::Crash { member } => c_sim::crash(table, *member),
+    }
+}
+
+/// Makes the call on both; the table becomes what the simulator made of it.
+fn both(table: &mut Vec<u32>, call: &Call, tally: &mut Tally) -> u32 {
+    let before = table.clone();
+    let returned_words = match call {
+        Call::Deliver { returned_words, .. } => *returned_words,
+        _ => 0,
+    };
+    // The library's copy stands between guards.
+    let mut lent = vec![GUARD; MARGIN];
+    lent.extend_from_slice(table);
+    lent.extend_from_slice(&[GUARD; MARGIN]);
+    let end = MARGIN + table.len();
+    let mut out_lib = vec![GUARD; MARGIN];
+    out_lib.extend(std::iter::repeat(UNTOUCHED).take(returned_words));
+    out_lib.extend_from_slice(&[GUARD; MARGIN]);
+    let mut out_sim = vec![UNTOUCHED; returned_words];
+
+    let by_lib = run_lib(&mut lent[MARGIN..end], call, &mut out_lib[MARGIN..MARGIN + returned_words]);
+    let by_sim = run_sim(table, call, &mut out_sim);
+
+    let story = || {
+        let n = if before.is_empty() { 0 } else { before[0] };
+        format!("{:?} on a table of {} words, its n {}", call, before.len(), n)
+    };
+    if by_lib != by_sim {
+        fail(&format!("{}: library answers {}, simulator {}", story(), by_lib, by_sim));
+    }
+    for i in 0..table.len() {
+        if lent[MARGIN + i] != table[i] {
+            fail(&format!("{}, answer {}: word {} was {}, library {}, simulator {}", story(), by_sim, i, before[i], lent[MARGIN + i], table[i]));
+        }
+    }
+    if out_lib[MARGIN..MARGIN + returned_words] != out_sim[..] {
+        fail(&format!("{}, answer {}: returned by library {:?}, simulator {:?}", story(), by_sim, &out_lib[MARGIN..MARGIN + returned_words], out_sim));
+    }
+    let guards = [&lent[..MARGIN], &lent[end..], &out_lib[..MARGIN], &out_lib[MARGIN + returned_words..]];
+    if guards.iter().any(|g| g.iter().any(|w| *w != GUARD)) {
+        fail(&format!("{}: wrote outside what was lent", story()));
+    }
+    if by_sim != 0 && *table != before {
+        fail(&format!("{}: the simulator itself changed words at a refusal", story()));
+    }
+
+    tally.calls += 1;
+    tally.words += table.len() as u64;
+    let place = by_sim as usize;
+    match call {
+        Call::Open { .. } => tally.opens[place] += 1,
+        Call::Begin { .. } => tally.begins[place] += 1,
+        Call::Crash { .. } => tally.crashes[place] += 1,
+        Call::Deliver { member, .. } => {
+            tally.delivers[place] += 1;
+            if by_sim == 0 {
+                let start = block_start(table[0], *member);
+                if table[start] == HALTED {
+                    tally.halts[table[start + 2] as usize] += 1;
+                }
+                if out_sim[0] == 1 {
+                    tally.returned += 1;
+                }
+            }
+        }
+    }
+    by_sim
+}
+
+// ---------------------------------------------------------------- making calls
+
+fn random_value(rng: &mut Rng) -> Vec<u32> {
+    (0..8).map(|_| rng.word()).collect()
+}
+
+/// A call that mostly moves things forward.
+fn useful_call(rng: &mut Rng, n: u32, table: &[u32], crash_once_in: u64) -> Call {
+    let member = rng.between(1, n);
+    if rng.once_in(crash_once_in) {
+        return Call::Crash { member };
+    }
+    if table[block_start(n, member)] == IDLE {
+        let slot = if rng.once_in(2) { 1 } else { rng.between(1, n) };
+        let op_type = if slot == member { WRITE } else { READ };
+        return Call::Begin { member, slot, op_type, value: random_value(rng) };
+    }
+    Call::Deliver { member, returned_words: 9 }
+}
+
+/// A call with any arguments.
+fn any_call(rng: &mut Rng, n: u32) -> Call {
+    let edge = [0, 1, 2, n, n.wrapping_add(1), 11, 12, 13, 255, 256, 0x8000_0000, u32::MAX];
+    let near = n.min(12);
+    let member = if rng.once_in(2) && near > 0 { rng.between(1, near) } else { *rng.pick(&edge) };
+    match rng.below(8) {
+        0 => Call::Crash { member },
+        1 | 2 | 3 => {
+            let returned_words = if rng.once_in(6) { *rng.pick(&[0, 1, 8, 10, 18]) } else { 9 };
+            Call::Deliver { member, returned_words }
+        }
+        _ => {
+            let slot = if rng.once_in(2) && near > 0 { rng.between(1, near) } else { *rng.pick(&edge) };
+            let op_type = if rng.once_in(4) { *rng.pick(&[0, 3, 257, u32::MAX]) } else { rng.between(1, 2) };
+            let mut value = random_value(rng);
+            if rng.once_in(6) {
+                value.resize(*rng.pick(&[0, 1, 7, 9, 16]), 1);
+            }
+            Call::Begin { member, slot, op_type, value }
+        }
+    }
+}
+
+fn some_call(rng: &mut Rng, table: &[u32]) -> Call {
+    if check_table(table) == 0 && !rng.once_in(4) {
+        return useful_call(rng, table[0], table, 20);
+    }
+    let n = if table.is_empty() { 3 } else { table[0] };
+    any_call(rng, n)
+}
+
+// ---------------------------------------------------------------- making tables
+
+/// A table after a random run.
+fn after_run(rng: &mut Rng, n: u32, steps: u32, crash_once_in: u64) -> Vec<u32> {
+    let mut table = new_table(n);
+    for _ in 0..steps {
+        let call = useful_call(rng, n, &table, crash_once_in);
+        run_sim(&mut table, &call, &mut [0; 9]);
+    }
+    table
+}
+
+/// A table of any words that mostly passes the table check.
+fn any_table(rng: &mut Rng, n: u32) -> Vec<u32> {
+    let high = *rng.pick(&[1u32, 2, 4]);
+    let mut table: Vec<u32> = (0..table_words(n)).map(|_| rng.between(0, high)).collect();
+    table[0] = n;
+    let any_record = |rng: &mut Rng, words: &mut [u32]| {
+        words[0] = rng.between(0, n);
+        words[1] = rng.between(0, n);
+        words[2] = rng.between(0, 2);
+    };
+    for member in 1..=n {
+        let start = block_start(n, member);
+        let slot = rng.between(1, n);
+        table[start] = rng.between(0, 6);
+        table[start + 1] = rng.once_in(5) as u32;
+        table[start + 2] = *rng.pick(&[0, 0, 21, 24, 27]);
+        table[start + 3] = slot;
+        table[start + 4] = if slot == member { WRITE } else { READ };
+        if table[start] == IDLE && rng.once_in(2) {
+            table[start + 3] = 0;
+            table[start + 4] = 0;
+        }
+        any_record(rng, &mut table[start + first_start(n)..]);
+        any_record(rng, &mut table[start + second_start(n)..]);
+    }
+    for slot in 1..=n {
+        let start = entries_start(n) + entry_start(n, slot);
+        table[start] = rng.between(0, n);
+        any_record(rng, &mut table[start + 2..]);
+        any_record(rng, &mut table[start + 2 + record_words(n)..]);
+    }
+    table
+}
+
+/// One member in phase 2 whose reply is nearly good, so that every halt and
+/// every way of joining rows comes up.
+fn near_reply(rng: &mut Rng, n: u32) -> (Vec<u32>, u32) {
+    let mut table = new_table(n);
+    let member = rng.between(1, n);
+    let slot = rng.between(1, n);
+    let m = member as usize - 1;
+    let r = slot as usize - 1;
+    let base = *rng.pick(&[0u32, 5, u32::MAX - 9]);
+    let mut block = block_of(&table, member);
+    block.phase = REPLY_SENT;
+    block.slot = slot;
+    block.op_type = if slot == member { WRITE } else { READ };
+    let mut newest = opening_record(n, slot);
+    newest.member = rng.between(0, n);
+    for k in 0..n as usize {
+        block.own_counts[k] = base + rng.between(3, 6);
+        block.accepted_counts[k] = base + rng.between(2, 3);
+        for c in 0..n as usize {
+            newest.matrix[k][c] = base + rng.between(1, 3);
+        }
+        // Known is equal, below or above, the slot's row not above.
+        let turn = rng.below(3);
+        for c in 0..n as usize {
+            let here = newest.matrix[k][c];
+            block.known[k][c] = match turn {
+                0 => here,
+                1 => here - rng.between(0, 1),
+                _ if k == r => here,
+                _ => here + rng.between(0, 1),
+            };
+        }
+        if newest.matrix[k][m] > block.accepted_counts[k] {
+            newest.matrix[k][m] = block.accepted_counts[k];
+        }
+    }
+    newest.matrix[r][m] = block.accepted_counts[r];
+    let mut stored = opening_record(n, slot);
+    for k in 0..n as usize {
+        for c in 0..n as usize {
+            stored.matrix[k][c] = newest.matrix[k][c] - rng.between(0, 1);
+        }
+    }
+    stored.matrix[r][r] = newest.matrix[r][r];
+    for i in 0..8 {
+        stored.sheet[i] = rng.word();
+        block.pending_sheet[i] = rng.word();
+        block.last_sheet[i] = rng.word();
+    }
+    // Up to two small faults.
+    for _ in 0..rng.below(3) {
+        let k = rng.below(n as u64) as usize;
+        let c = rng.below(n as u64) as usize;
+        match rng.below(7) {
+            0 => block.known[k][c] += 1,
+            1 => newest.matrix[k][c] += 1,
+            2 => newest.matrix[k][c] -= 1,
+            3 => stored.matrix[k][c] += 1,
+            4 => stored.matrix[k][c] = stored.matrix[k][c].saturating_sub(1),
+            5 => stored.member = rng.between(0, n),
+            _ => block.accepted_counts[k] = block.accepted_counts[k].saturating_sub(1),
+        }
+    }
+    block.first = newest;
+    block.second = stored;
+    put_block(&mut table, member, &block);
+    (table, member)
+}
+
+/// Changes some words.
+fn corrupt(rng: &mut Rng, table: &mut Vec<u32>) {
+    let n = table[0];
+    for _ in 0..rng.between(1, 4) {
+        let mut place = rng.below(table.len() as u64) as usize;
+        if rng.once_in(3) {
+            // Among the five first words of a block.
+            place = block_start(n, rng.between(1, n)) + rng.below(5) as usize;
+        }
+        let old = table[place];
+        table[place] = *rng.pick(&[0, 1, 2, 3, n, n + 1, 6, 7, 12, 13, 20, 21, 27, 28, old ^ 1, old.wrapping_add(1), old.wrapping_sub(1), u32::MAX - 1, u32::MAX]);
+        if place == 0 && rng.once_in(2) {
+            table[0] = n;
+        }
+        if !n_is_good(table[0]) {
+            return;
+        }
+        if table[0] != n {
+            return;
+        }
+    }
+}
+
+fn all_calls(n: u32) -> Vec<Call> {
+    let mut calls = Vec::new();
+    for member in 0..=n + 1 {
+        calls.push(Call::Deliver { member, returned_words: 9 });
+        calls.push(Call::Crash { member });
+        for slot in 0..=n + 1 {
+            for op_type in 0..=3 {
+                calls.push(Call::Begin { member, slot, op_type, value: vec![7; 8] });
+            }
+        }
+    }
+    calls
+}
+
+// ---------------------------------------------------------------- the parts
+
+/// Opening and lengths, for every n and around every length.
+fn fixed_opening(tally: &mut Tally) {
+    for n in 1..=12 {
+        if c_lib::words(n) as usize != table_words(n) {
+            fail(&format!("concur_board_words({}) is {}, expected {}", n, c_lib::words(n), table_words(n)));
+        }
+    }
+    // Document 01 does not say what it is for another n; shown, not judged.
+    println!("words for n = 0, 13, 4294967295: {} {} {}", c_lib::words(0), c_lib::words(13), c_lib::words(u32::MAX));
+    for n in [0, 1, 2, 3, 4, 5, 6, 7, 8, 9, 10, 11, 12, 13, 14, 255, 256, 268, u32::MAX] {
+        for length in 0..200 {
+            both(&mut vec![0xFFFF_FFFF; length], &Call::Open { n }, tally);
+        }
+        for right in 1..=12 {
+            let words = table_words(right);
+            for length in [words - 1, words, words + 1, words + 7] {
+                both(&mut vec![0xFFFF_FFFF; length], &Call::Open { n }, tally);
+            }
+        }
+    }
+}
+
+/// Tables of other lengths and other n.
+fn fixed_lengths(tally: &mut Tally) {
+    for n in 1..=12 {
+        let good = new_table(n);
+        let mut lengths = vec![0, 1, 2, good.len() - 1, good.len() + 1, good.len() + 30];
+        lengths.extend((1..=12).map(table_words));
+        for length in lengths {
+            for first in [n, 0, 13, u32::MAX] {
+                let mut table = good.clone();
+                table.resize(length, 0);
+                if length > 0 {
+                    table[0] = first;
+                }
+                for call in [
+                    Call::Begin { member: 1, slot: 1, op_type: WRITE, value: vec![1; 8] },
+                    Call::Begin { member: 99, slot: 1, op_type: WRITE, value: vec![1; 7] },
+                    Call::Deliver { member: 1, returned_words: 9 },
+                    Call::Deliver { member: 99, returned_words: 8 },
+                    Call::Crash { member: 1 },
+                    Call::Crash { member: 99 },
+                ] {
+                    both(&mut table.clone(), &call, tally);
+                }
+            }
+        }
+    }
+}
+
+/// Every call with every small argument, on tables after runs and in every phase.
+fn fixed_arguments(tally: &mut Tally) {
+    let mut rng = Rng::new(11);
+    for n in 1..=4 {
+        for steps in [0, 1, 2, 3, 5, 8, 13, 30, 60] {
+            let table = after_run(&mut rng, n, steps, 15);
+            for call in all_calls(n) {
+                both(&mut table.clone(), &call, tally);
+            }
+        }
+    }
+    // All phases, marks, halt numbers, slots and types of one block.
+    for n in 1..=3 {
+        for member in 1..=n {
+            for phase in 0..=7 {
+                for mark in 0..=2 {
+                    for halt in [0, 1, 20, 21, 22, 26, 27, 28, u32::MAX] {
+                        for slot in 0..=n + 1 {
+                            for op_type in 0..=3 {
+                                let mut table = new_table(n);
+                                let start = block_start(n, member);
+                                table[start..start + 5].copy_from_slice(&[phase, mark, halt, slot, op_type]);
+                                let begins = if slot == 0 { 1 } else { slot };
+                                both(&mut table.clone(), &Call::Deliver { member, returned_words: 9 }, tally);
+                                both(&mut table.clone(), &Call::Crash { member }, tally);
+                                let begin_type = if begins == member { WRITE } else { READ };
+                                both(&mut table, &Call::Begin { member, slot: begins, op_type: begin_type, value: vec![3; 8] }, tally);
+                            }
+                        }
+                    }
+                }
+            }
+        }
+    }
+}
+
+/// Each single word of a table set to boundary values, then each member's calls.
+fn fixed_words(tally: &mut Tally) {
+    let mut rng = Rng::new(12);
+    for n in [1u32, 2, 3] {
+        for steps in [0, 7, 25] {
+            let table = after_run(&mut rng, n, steps, 1000);
+            for place in 0..table.len() {
+                for word in [0, 1, 2, 3, n + 1, 7, 21, 28, u32::MAX - 1, u32::MAX] {
+                    for member in 1..=n {
+                        let slot = member % n + 1;
+                        let op_type = if slot == member { WRITE } else { READ };
+                        let mut changed = table.clone();
+                        changed[place] = word;
+                        both(&mut changed.clone(), &Call::Begin { member, slot, op_type, value: vec![9; 8] }, tally);
+                        both(&mut changed.clone(), &Call::Crash { member }, tally);
+                        for _ in 0..2 {
+                            both(&mut changed, &Call::Deliver { member, returned_words: 9 }, tally);
+                        }
+                    }
+                }
+            }
+        }
+    }
+    // The same once over a table of twelve, for the words that are checked.
+    let table = after_run(&mut rng, 12, 200, 1000);
+    for place in 0..table.len() {
+        let mut changed = table.clone();
+        changed[place] = 29;
+        both(&mut changed, &Call::Crash { member: 12 }, tally);
+    }
+}
+
+/// One round of random work from its own seed.
+fn random_round(seed: u64, tally: &mut Tally) {
+    let mut rng = Rng::new(seed);
+    let n = rng.between(1, 12);
+    match rng.below(6) {
+        // A run from the opening, each call on both.
+        0 => {
+            let mut table = vec![rng.word(); table_words(n)];
+            both(&mut table, &Call::Open { n }, tally);
+            let crash_once_in = *rng.pick(&[30, 200, 100_000]);
+            for _ in 0..150 {
+                let call = if rng.once_in(8) { any_call(&mut rng, n) } else { useful_call(&mut rng, n, &table, crash_once_in) };
+                both(&mut table, &call, tally);
+            }
+        }
+        // A run whose own counts are near the end.
+        1 => {
+            let mut table = new_table(n);
+            for member in 1..=n {
+                let mut block = block_of(&table, member);
+                for k in 0..n as usize {
+                    block.own_counts[k] = u32::MAX - rng.between(0, 2);
+                }
+                put_block(&mut table, member, &block);
+            }
+            for _ in 0..80 {
+                let call = useful_call(&mut rng, n, &table, 300);
+                both(&mut table, &call, tally);
+            }
+        }
+        // A table after a run, corrupted.
+        2 => {
+            let steps = rng.between(0, 60);
+            let start = after_run(&mut rng, n, steps, 60);
+            for _ in 0..12 {
+                let mut table = start.clone();
+                corrupt(&mut rng, &mut table);
+                for _ in 0..6 {
+                    let call = some_call(&mut rng, &table);
+                    both(&mut table, &call, tally);
+                }
+            }
+        }
+        // A table of any words.
+        3 => {
+            let mut table = any_table(&mut rng, n);
+            if rng.once_in(3) {
+                corrupt(&mut rng, &mut table);
+            }
+            for _ in 0..20 {
+                let call = some_call(&mut rng, &table);
+                both(&mut table, &call, tally);
+            }
+        }
+        // Replies that are nearly good.
+        4 => {
+            for _ in 0..20 {
+                let (mut table, member) = near_reply(&mut rng, n);
+                for _ in 0..3 {
+                    both(&mut table, &Call::Deliver { member, returned_words: 9 }, tally);
+                }
+            }
+        }
+        // Another length.
+        _ => {
+            let steps = rng.between(0, 30);
+            let mut table = after_run(&mut rng, n, steps, 60);
+            if rng.once_in(2) {
+                let cut = rng.below(table.len() as u64) as usize;
+                table.truncate(cut);
+            } else {
+                for _ in 0..rng.between(1, 40) {
+                    table.push(rng.between(0, 3));
+                }
+            }
+            for _ in 0..6 {
+                let call = any_call(&mut rng, n);
+                both(&mut table, &call, tally);
+            }
+        }
+    }
+}
+
+// ---------------------------------------------------------------- messages
+
+fn both_check(bytes: &[u8], n: u32, tally: &mut Tally) {
+    let before = bytes.to_vec();
+    let by_lib = c_lib::message_check(bytes, n);
+    let by_sim = messages::check(bytes, n);
+    if by_lib != by_sim {
+        let shown = &bytes[..bytes.len().min(60)];
+        fail(&format!("message of {} bytes, n {}: library {}, simulator {}; starts {:?}", bytes.len(), n, by_lib, by_sim, shown));
+    }
+    if bytes != &before[..] {
+        fail("the message check wrote to the message");
+    }
+    tally.messages += 1;
+    tally.checks[by_sim as usize] += 1;
+}
+
+fn random_record(rng: &mut Rng, n: u32) -> Record {
+    let mut record = zero_record(n);
+    record.member = rng.between(1, n);
+    record.slot = rng.between(1, n);
+    record.op_type = rng.between(1, 2);
+    record.count = rng.word();
+    for i in 0..8 {
+        record.sheet[i] = rng.word();
+    }
+    for row in record.matrix.iter_mut() {
+        for count in row.iter_mut() {
+            *count = rng.word();
+        }
+    }
+    record
+}
+
+fn good_message(rng: &mut Rng, n: u32) -> Vec<u8> {
+    let record = random_record(rng, n);
+    let message = match rng.below(4) {
+        0 => Message::Submit(Submit { member: record.member, slot: record.slot, op_type: record.op_type, count: record.count }),
+        1 => Message::Reply { newest: record, stored: random_record(rng, n) },
+        2 => Message::Commit(record),
+        _ => Message::Outcome(rng.between(1, 2)),
+    };
+    let mut out = vec![0; 1300];
+    let length = messages::write(&message, n, &mut out).expect("a good message");
+    out.truncate(length);
+    out
+}
+
+fn mend_length(bytes: &mut Vec<u8>) {
+    if bytes.len() >= 2 {
+        let length = bytes.len() - 2;
+        bytes[0] = (length / 256) as u8;
+        bytes[1] = (length % 256) as u8;
+    }
+}
+
+fn fixed_messages(tally: &mut Tally) {
+    let mut rng = Rng::new(13);
+    for n in 1..=12u32 {
+        let mut seen = [false; 5];
+        while seen[1..].iter().any(|s| !*s) {
+            let good = good_message(&mut rng, n);
+            if seen[good[3] as usize] {
+                continue;
+            }
+            seen[good[3] as usize] = true;
+            for other in [0, 1, 2, 3, 4, 5, 6, 7, 8, 9, 10, 11, 12, 13, 255, 256, 256 + n, u32::MAX] {
+                both_check(&good, other, tally);
+            }
+            for length in 0..good.len() {
+                both_check(&good[..length], n, tally);
+                let mut cut = good[..length].to_vec();
+                mend_length(&mut cut);
+                both_check(&cut, n, tally);
+            }
+            for more in 1..6 {
+                let mut longer = good.clone();
+                longer.extend(vec![1; more]);
+                both_check(&longer, n, tally);
+                mend_length(&mut longer);
+                both_check(&longer, n, tally);
+            }
+            for place in 0..good.len() {
+                for byte in [0, 1, 2, 3, 4, 5, n as u8, n as u8 + 1, 12, 13, 127, 128, 255] {
+                    let mut changed = good.clone();
+                    changed[place] = byte;
+                    both_check(&changed, n, tally);
+                }
+            }
+        }
+        // Every length with every kind and the right length field.
+        for length in 0..1300 {
+            for kind in 0..=5 {
+                let mut bytes = vec![1u8; length];
+                mend_length(&mut bytes);
+                if length > 3 {
+                    bytes[3] = kind;
+                }
+                if length > 4 {
+                    bytes[4] = n as u8;
+                }
+                both_check(&bytes, n, tally);
+            }
+        }
+    }
+    // Longer than a length field can say.
+    for length in [65535, 65536, 65537, 65538, 65539, 65547, 70000] {
+        let mut bytes = vec![1u8; length];
+        mend_length(&mut bytes);
+        both_check(&bytes, 2, tally);
+        bytes[0] = 0;
+        bytes[1] = 9;
+        both_check(&bytes, 2, tally);
+    }
+}
+
+fn random_messages(seed: u64, tally: &mut Tally) {
+    let mut rng = Rng::new(seed);
+    for _ in 0..40 {
+        let n = rng.between(1, 12);
+        let mut bytes = good_message(&mut rng, n);
+        if rng.once_in(5) {
+            bytes = (0..rng.below(1300)).map(|_| rng.between(0, 4) as u8).collect();
+        }
+        if rng.once_in(3) {
+            let length = rng.below(bytes.len() as u64 + 4) as usize;
+            bytes.resize(length, 1);
+        }
+        if rng.once_in(2) {
+            mend_length(&mut bytes);
+        }
+        for _ in 0..rng.below(3) {
+            if !bytes.is_empty() {
+                let reach = if rng.once_in(2) { bytes.len().min(12) } else { bytes.len() };
+                let place = rng.below(reach as u64) as usize;
+                bytes[place] = *rng.pick(&[0, 1, 2, 3, 4, 5, 12, 13, 128, 255]);
+            }
+        }
+        let asked = if rng.once_in(6) { *rng.pick(&[0, 1, 2, 12, 13, u32::MAX]) } else { n };
+        both_check(&bytes, asked, tally);
+    }
+}
+
+fn main() {
+    let args: Vec<String> = std::env::args().collect();
+    if args.len() < 2 {
+        println!("usage: capi SECONDS [SEED]");
+        std::process::exit(2);
+    }
+    let limit = Duration::from_secs_f64(args[1].parse().expect("seconds"));
+    let seed: u64 = if args.len() > 2 { args[2].parse().expect("seed") } else { 7 };
+    let start = Instant::now();
+    let mut tally = Tally::default();
+
+    fixed_opening(&mut tally);
+    fixed_lengths(&mut tally);
+    fixed_arguments(&mut tally);
+    fixed_words(&mut tally);
+    fixed_messages(&mut tally);
+    let fixed = start.elapsed();
+    // The random part runs in the time that is left, at least 500 rounds.
+    let mut rounds: u64 = 0;
+    while rounds < 500 || start.elapsed() < limit {
+        random_round(seed.wrapping_mul(1_000_003).wrapping_add(rounds), &mut tally);
+        random_messages(seed.wrapping_mul(2_000_003).wrapping_add(rounds), &mut tally);
+        rounds += 1;
+    }
+
+    println!("seed {} rounds {} fixed part {:.1} s, all {:.1} s", seed, rounds, fixed.as_secs_f64(), start.elapsed().as_secs_f64());
+    println!("calls {} words compared {} sheets returned {}", tally.calls, tally.words, tally.returned);
+    println!("open by answer    {:?}", &tally.opens[..12]);
+    println!("begin by answer   {:?}", &tally.begins[..12]);
+    println!("deliver by answer {:?}", &tally.delivers[..12]);
+    println!("crash by answer   {:?}", &tally.crashes[..12]);
+    println!("halts 22 to 27    {:?}", &tally.halts[22..]);
+    println!("messages {} by answer 0, 1, 12 to 15: {} {} {:?}", tally.messages, tally.checks[0], tally.checks[1], &tally.checks[12..16]);
+    // The work must not be empty.
+    let wanted: Vec<(&str, &[u64], Vec<usize>)> = vec![
+        ("open", &tally.opens, vec![0, 1, 2]),
+        ("begin", &tally.begins, vec![0, 2, 3, 4, 5, 6, 7, 8, 9]),
+        ("deliver", &tally.delivers, vec![0, 2, 3, 4, 10]),
+        ("crash", &tally.crashes, vec![0, 2, 3, 4, 11]),
+        ("halt", &tally.halts, vec![22, 23, 24, 25, 26, 27]),
+        ("message", &tally.checks, vec![0, 1, 12, 13, 14, 15]),
+    ];
+    for (name, counts, numbers) in wanted {
+        for number in numbers {
+            if counts[number] == 0 {
+                fail(&format!("{} {} never came up", name, number));
+            }
+        }
+    }
+    println!("all agreed");
+}

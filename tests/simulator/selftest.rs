@@ -1,0 +1,850 @@
+// Tests of the simulator on its own.
+// Usage: selftest [SEED] [RUNS PER N]
+#![allow(dead_code)]
+
+mod board;
+mod messages;
+mod reference;
+mod rng;
+mod script;
+
+use board::*;
+use messages::Message;
+use reference::{Book, Call};
+use rng::Rng;
+
+fn main() {
+    let args: Vec<String> = std::env::args().collect();
+    let seed: u64 = if args.len() > 1 { args[1].parse().expect("seed") } else { 20260601 };
+    let runs: u32 = if args.len() > 2 { args[2].parse().expect("runs") } else { 60 };
+    println!("seed {} runs per n {}", seed, runs);
+
+    layout();
+    example();
+    script_forms();
+    boards_to_prove();
+    grounds_in_order();
+    halts_in_order();
+    half_grounds();
+    message_grounds();
+    message_round_trips(&mut Rng::new(seed));
+    random_runs(seed, runs);
+    strange_tables(&mut Rng::new(seed + 1));
+    println!("all passed");
+}
+
+fn last_word(value: u32) -> Sheet {
+    [0, 0, 0, 0, 0, 0, 0, value]
+}
+
+// ---------------------------------------------------------------- fixed cases
+
+fn layout() {
+    for n in 1..=12u32 {
+        let m = n as usize;
+        assert_eq!(table_words(n), 1 + m * (71 + 2 * m + 5 * m * m));
+        let table = new_table(n);
+        assert_eq!(check_table(&table), 0);
+        let mut again = table.clone();
+        for member in 1..=n {
+            let block = block_of(&table, member);
+            assert!(block_to_words(&block).iter().all(|w| *w == 0));
+            put_block(&mut again, member, &block);
+        }
+        for slot in 1..=n {
+            let entry = entry_of(&table, slot);
+            assert_eq!((entry.submit_member, entry.submit_count), (0, 0));
+            assert_eq!(entry.stored, opening_record(n, slot));
+            assert_eq!(entry.newest, opening_record(n, slot));
+            put_entry(&mut again, slot, &entry);
+        }
+        assert_eq!(again, table);
+        // Opening reads none of the old words.
+        let mut old = vec![0xFFFF_FFFF; table_words(n)];
+        assert_eq!(open(&mut old, n), 0);
+        assert_eq!(old, table);
+    }
+    assert_eq!(table_words(12), 9781);
+    println!("ok layout");
+}
+
+fn run_script(text: &[u8]) -> String {
+    let mut input = text;
+    let mut output = Vec::new();
+    script::run(&mut input, &mut output).unwrap();
+    String::from_utf8(output).unwrap()
+}
+
+fn example() {
+    let mut text = String::from("members 2\nwrite 1 77\n");
+    for _ in 0..4 {
+        text += "deliver 1\n";
+    }
+    text += "read 2 1\n";
+    for _ in 0..4 {
+        text += "deliver 2\n";
+    }
+    let expected = "board 2\n1 0 1 -\n2 0 2 -\n3 0 3 -\n4 0 4 -\n5 0 0 -\n6 0 1 -\n7 0 2 -\n8 0 3 -\n9 0 4 -\n10 0 0 77\n";
+    assert_eq!(run_script(text.as_bytes()), expected);
+    // The last line may lack its line feed.
+    assert_eq!(run_script(text.trim_end().as_bytes()), expected);
+    println!("ok example");
+}
+
+fn script_forms() {
+    let bad_form = [
+        "", "\n", "members", "members ", "members  2", "members 02", "members 00", "members +1", "members -1",
+        " members 2", "members 2 ", "members 2\r", "members\t2", "Members 2", "members 2 3", "member 2",
+        "members 4294967296", "members 99999999999999999999999", "members 2\0", "members x", "deliver 1", "members 1.0",
+        "\nmembers 2\n",
+    ];
+    for first in bad_form {
+        assert_eq!(run_script(first.as_bytes()), "board refused 17\n", "{:?}", first);
+    }
+    for first in ["members 0", "members 13", "members 4294967295", "members 0\ndeliver 1\n"] {
+        assert_eq!(run_script(first.as_bytes()), "board refused 1\n", "{:?}", first);
+    }
+    assert_eq!(run_script(b"members 12"), "board 12\n");
+    assert_eq!(run_script(b"members 1\n"), "board 1\n");
+    assert_eq!(run_script(b"members 1\n\n"), "board 1\n1 17 - -\n");
+    assert_eq!(run_script(b"members 1\n\n\nx"), "board 1\n1 17 - -\n2 17 - -\n3 17 - -\n");
+    let bad_lines = [
+        "write 1", "write 1 2 3", "write  1 2", "write 1  2", "write 1 2 ", " write 1 2", "write 1 02", "write 01 2",
+        "write 1 4294967296", "read 1", "read 1 2 3", "deliver", "deliver ", "deliver 1 ", "deliver 1 1", "crash",
+        "crash 1 1", "members 2", "deliver 1\r", "deliver\t1", "deliver 1\0", "Deliver 1", "deliver +1", "deliver 00",
+        "deliver 99999999999", "", " ", "deliver 1\n ",
+    ];
+    for line in bad_lines {
+        let text = format!("members 2\n{}\n", line);
+        let out = run_script(text.as_bytes());
+        assert!(out.contains("17 - -"), "{:?} {:?}", line, out);
+    }
+    let text = b"members 3\ndeliver 0\ndeliver 4\ncrash 4294967295\nread 4 1\nread 1 0\nread 1 4\nread 1 1\nwrite 2 4294967295\nwrite 2 1\ndeliver 1\ncrash 1\ncrash 1\nread 1 2\n";
+    let expected = "board 3\n1 4 - -\n2 4 - -\n3 4 - -\n4 4 - -\n5 5 0 -\n6 5 0 -\n7 7 0 -\n8 0 1 -\n9 8 1 -\n10 10 0 -\n11 0 0 -\n12 11 0 -\n13 8 0 -\n";
+    assert_eq!(run_script(text), expected);
+    // A read of an unwritten slot prints 0.
+    let out = run_script(b"members 2\nread 1 2\ndeliver 1\ndeliver 1\ndeliver 1\ndeliver 1");
+    assert!(out.ends_with("5 0 0 0\n"), "{}", out);
+    // It ends after 1,000,000 steps.
+    let mut long = b"members 1\n".to_vec();
+    for _ in 0..1_000_003 {
+        long.extend_from_slice(b"x\n");
+    }
+    let out = run_script(&long);
+    assert_eq!(out.lines().count(), 1_000_001);
+    assert!(out.ends_with("\n1000000 17 - -\n"));
+    println!("ok script forms");
+}
+
+fn deliver_ok(table: &mut Vec<u32>, member: u32) -> Option<Sheet> {
+    let answer = deliver(table, member);
+    assert_eq!(answer.number, 0);
+    answer.returned
+}
+
+fn whole(table: &mut Vec<u32>, member: u32, slot: u32, op_type: u32, value: u32) -> Option<Sheet> {
+    assert_eq!(begin(table, member, slot, op_type, &last_word(value)), 0);
+    for _ in 0..3 {
+        assert_eq!(deliver_ok(table, member), None);
+    }
+    assert_eq!(phase_of(table, member), ACCEPTED_SENT);
+    deliver_ok(table, member)
+}
+
+fn boards_to_prove() {
+    // P1
+    assert_eq!(new_table(1).len(), 79);
+    assert_eq!(open(&mut vec![0; 79], 1), 0);
+    assert_eq!(open(&mut vec![0; 79], 0), 1);
+    assert_eq!(open(&mut vec![0; 79], 13), 1);
+    assert_eq!(open(&mut vec![0; 78], 1), 2);
+    // P2 and P3
+    let mut table = new_table(2);
+    whole(&mut table, 1, 1, WRITE, 77);
+    assert_eq!(entry_of(&table, 1).newest.matrix, vec![vec![1, 0], vec![0, 0]]);
+    begin(&mut table, 2, 1, READ, &[0; 8]);
+    for _ in 0..3 {
+        deliver_ok(&mut table, 2);
+    }
+    assert_eq!(entry_of(&table, 1).newest.matrix, vec![vec![1, 1], vec![0, 0]]);
+    assert_eq!(entry_of(&table, 1).stored.member, 1);
+    assert_eq!(deliver_ok(&mut table, 2), Some(last_word(77)));
+    // P4 and P5
+    let mut table = new_table(2);
+    assert_eq!(begin(&mut table, 1, 1, READ, &[0; 8]), 7);
+    assert_eq!(begin(&mut table, 1, 2, READ, &[0; 8]), 0);
+    assert_eq!(begin(&mut table, 1, 2, READ, &[0; 8]), 8);
+    // P6: first messages taken: each has had its reply.
+    let mut table = new_table(3);
+    begin(&mut table, 1, 3, READ, &[0; 8]);
+    begin(&mut table, 2, 3, READ, &[0; 8]);
+    deliver_ok(&mut table, 1);
+    deliver_ok(&mut table, 2);
+    deliver_ok(&mut table, 1);
+    deliver_ok(&mut table, 2);
+    deliver_ok(&mut table, 1);
+    assert_eq!(phase_of(&table, 1), ABORTED_SENT);
+    deliver_ok(&mut table, 2);
+    assert_eq!(phase_of(&table, 2), ACCEPTED_SENT);
+    assert_eq!(entry_of(&table, 3).newest.matrix[2], vec![0, 1, 0]);
+    // P7
+    assert_eq!(deliver_ok(&mut table, 1), None);
+    assert_eq!(deliver_ok(&mut table, 2), Some([0; 8]));
+    whole(&mut table, 2, 2, WRITE, 5);
+    assert_eq!(whole(&mut table, 1, 2, READ, 0), Some(last_word(5)));
+    assert_eq!(entry_of(&table, 2).newest.matrix[1], vec![1, 1, 0]);
+    assert_eq!(entry_of(&table, 2).newest.matrix[2], vec![0, 1, 0]);
+    // P8
+    assert_eq!(whole(&mut table, 1, 3, READ, 0), Some([0; 8]));
+    assert_eq!(entry_of(&table, 3).newest.matrix[2], vec![2, 1, 0]);
+    // P9
+    let mut table = new_table(2);
+    let mut block = block_of(&table, 1);
+    block.own_counts[0] = 4_294_967_294;
+    put_block(&mut table, 1, &block);
+    whole(&mut table, 1, 1, WRITE, 1);
+    assert_eq!(block_of(&table, 1).own_counts[0], u32::MAX);
+    assert_eq!(begin(&mut table, 1, 1, WRITE, &last_word(2)), 9);
+    assert_eq!(begin(&mut table, 1, 2, READ, &[0; 8]), 0);
+    // P10
+    let mut table = new_table(2);
+    begin(&mut table, 1, 1, WRITE, &last_word(9));
+    deliver_ok(&mut table, 1);
+    deliver_ok(&mut table, 1);
+    assert_eq!(phase_of(&table, 1), COMMIT_SENT);
+    assert_eq!(crash(&mut table, 1), 0);
+    assert_eq!(deliver(&mut table, 1).number, 0);
+    assert_eq!(deliver(&mut table, 1).number, 10);
+    assert_eq!(whole(&mut table, 2, 1, READ, 0), Some(last_word(9)));
+    // P11, on the board and on the half
+    let mut table = new_table(2);
+    let mut block = block_of(&table, 1);
+    block.known[1] = vec![0, 2];
+    put_block(&mut table, 1, &block);
+    let mut entry = entry_of(&table, 2);
+    entry.newest.matrix[1] = vec![0, 1];
+    put_entry(&mut table, 2, &entry);
+    begin(&mut table, 1, 2, READ, &[0; 8]);
+    let mut half = block_to_words(&block_of(&table, 1));
+    deliver_ok(&mut table, 1);
+    deliver_ok(&mut table, 1);
+    let halted = block_of(&table, 1);
+    assert_eq!((halted.phase, halted.halt_number), (HALTED, 22));
+    assert_eq!((halted.first.clone(), halted.second.clone()), (zero_record(2), zero_record(2)));
+    assert_eq!((halted.slot, halted.op_type), (2, READ));
+    let none = half_take_reply(&mut half, 2, 1, 3, &entry.newest, &entry.stored);
+    assert_eq!(none, Ok(None));
+    assert_eq!(block_from_words(&half, 2), halted);
+    assert_eq!(deliver(&mut table, 1).number, 10);
+    assert_eq!(crash(&mut table, 1), 11);
+    assert_eq!(begin(&mut table, 1, 1, WRITE, &[0; 8]), 8);
+    // P12
+    for (n, commit, reply) in [(2, 60, 115), (12, 620, 1235)] {
+        let mut out = vec![0; 2000];
+        let record = opening_record(n, 1);
+        assert_eq!(messages::write(&Message::Commit(record.clone()), n, &mut out), Ok(commit));
+        let both = Message::Reply { newest: record.clone(), stored: record };
+        assert_eq!(messages::write(&both, n, &mut out), Ok(reply));
+    }
+    println!("ok P1 to P12");
+}
+
+/// Each ground alone and before the next one.
+fn grounds_in_order() {
+    assert_eq!(check_table(&[]), 3);
+    assert_eq!(check_table(&[0]), 3);
+    assert_eq!(check_table(&[13]), 3);
+    assert_eq!(check_table(&[1]), 2);
+    // n out of range goes before the length, the length before the rest.
+    let mut table = new_table(2);
+    table[1] = 7;
+    assert_eq!(check_table(&table), 3);
+    table.pop();
+    assert_eq!(check_table(&table), 2);
+    table[0] = 13;
+    assert_eq!(check_table(&table), 3);
+    // Begin: 3 before 4 before 5 and so on.
+    let mut table = new_table(2);
+    table[1] = 7;
+    assert_eq!(begin(&mut table, 9, 9, 9, &[0; 8]), 3);
+    let mut table = new_table(2);
+    let mut block = block_of(&table, 1);
+    block.own_counts = vec![u32::MAX; 2];
+    block.crash_mark = 1;
+    put_block(&mut table, 1, &block);
+    assert_eq!(begin(&mut table, 0, 0, 0, &[0; 8]), 4);
+    assert_eq!(begin(&mut table, 3, 0, 0, &[0; 8]), 4);
+    assert_eq!(begin(&mut table, 1, 0, 0, &[0; 8]), 5);
+    assert_eq!(begin(&mut table, 1, 3, 0, &[0; 8]), 5);
+    assert_eq!(begin(&mut table, 1, 1, 0, &[0; 8]), 6);
+    assert_eq!(begin(&mut table, 1, 1, 3, &[0; 8]), 6);
+    assert_eq!(begin(&mut table, 1, 1, READ, &[0; 8]), 7);
+    assert_eq!(begin(&mut table, 1, 2, WRITE, &[0; 8]), 7);
+    assert_eq!(begin(&mut table, 1, 1, WRITE, &[0; 8]), 8);
+    block.crash_mark = 0;
+    put_block(&mut table, 1, &block);
+    assert_eq!(begin(&mut table, 1, 1, WRITE, &[0; 8]), 9);
+    // Words that make 3, one by one, and words that do not.
+    let n = 2;
+    let first = block_start(n, 1);
+    let entry = entries_start(n);
+    let faults: Vec<(usize, u32)> = vec![
+        (first, 7),
+        (first + 1, 2),
+        (first + 2, 1),
+        (first + 2, 20),
+        (first + 2, 28),
+        (first + 3, 3),
+        (first + 4, 3),
+        (first + first_start(n), 3),
+        (first + first_start(n) + 1, 3),
+        (first + first_start(n) + 2, 3),
+        (first + second_start(n), 3),
+        (first + second_start(n) + 1, 3),
+        (first + second_start(n) + 2, 3),
+        (entry, 3),
+        (entry + 2, 3),
+        (entry + 3, 3),
+        (entry + 4, 3),
+        (entry + 2 + record_words(n), 3),
+        (entry + 3 + record_words(n), 3),
+        (entry + 4 + record_words(n), 3),
+        (first, 1), // phase 1 with slot and type 0
+    ];
+    for (place, word) in &faults {
+        let mut table = new_table(n);
+        table[*place] = *word;
+        assert_eq!(check_table(&table), 3, "word {} set to {}", place, word);
+    }
+    let harmless: Vec<(usize, u32)> = vec![
+        (first, 6),
+        (first + 1, 1),
+        (first + 2, 21),
+        (first + 2, 27),
+        (first + 3, 2),
+        (first + 4, 2),
+        (first + first_start(n) + 3, u32::MAX),
+        (entry + 1, u32::MAX),
+        (entry + 2, 0),
+        (entry + 4, 0),
+    ];
+    for (place, word) in &harmless {
+        let mut table = new_table(n);
+        table[*place] = *word;
+        assert_eq!(check_table(&table), 0, "word {} set to {}", place, word);
+    }
+    for phase in 1..=5 {
+        for slot in 0..=2 {
+            for op_type in 0..=2 {
+                let mut table = new_table(n);
+                table[first] = phase;
+                table[first + 3] = slot;
+                table[first + 4] = op_type;
+                let good = (slot == 1 && op_type == WRITE) || (slot == 2 && op_type == READ);
+                assert_eq!(check_table(&table), if good { 0 } else { 3 });
+            }
+        }
+    }
+    println!("ok grounds");
+}
+
+/// A member 1 reading slot 2 of 3, with matrices that fail from 22 on, mended one by one.
+fn halts_in_order() {
+    let n = 3;
+    let mut block = block_from_words(&vec![0; block_words(n)], n);
+    block.phase = SUBMIT_SENT;
+    block.slot = 2;
+    block.op_type = READ;
+    block.own_counts[1] = 6;
+    block.accepted_counts = vec![0, 4, 1];
+    block.known = vec![vec![0, 1, 0], vec![9, 3, 3], vec![1, 2, 0]];
+    let mut newest = opening_record(n, 2);
+    newest.matrix = vec![vec![0, 0, 1], vec![5, 3, 2], vec![2, 2, 2]];
+    let mut stored = opening_record(n, 2);
+    stored.member = 3;
+    stored.matrix = vec![vec![0, 0, 0], vec![0, 2, 0], vec![0, 0, 9]];
+
+    let mut seen = Vec::new();
+    for seals in 0..3 {
+        assert_eq!(halt_of(&block, n, 1, seals, &newest, &stored), 21);
+    }
+    seen.push(halt_of(&block, n, 1, 3, &newest, &stored));
+    newest.matrix[1][2] = 3;
+    seen.push(halt_of(&block, n, 1, 3, &newest, &stored));
+    newest.matrix[1][0] = 4;
+    seen.push(halt_of(&block, n, 1, 3, &newest, &stored));
+    stored.member = 2;
+    seen.push(halt_of(&block, n, 1, 3, &newest, &stored));
+    stored.matrix[2][2] = 2;
+    seen.push(halt_of(&block, n, 1, 3, &newest, &stored));
+    stored.matrix[1][1] = 3;
+    seen.push(halt_of(&block, n, 1, 3, &newest, &stored));
+    newest.matrix[0][1] = 1;
+    seen.push(halt_of(&block, n, 1, 3, &newest, &stored));
+    newest.matrix[2][0] = 1;
+    seen.push(halt_of(&block, n, 1, 3, &newest, &stored));
+    assert_eq!(seen, vec![22, 23, 24, 25, 25, 26, 27, 0]);
+
+    let mut words = block_to_words(&block);
+    let commit = half_take_reply(&mut words, n, 1, 3, &newest, &stored).unwrap().unwrap();
+    assert_eq!((commit.member, commit.slot, commit.op_type, commit.count), (1, 2, READ, 6));
+    assert_eq!(commit.matrix, vec![vec![0, 1, 1], vec![6, 3, 3], vec![1, 2, 2]]);
+    let after = block_from_words(&words, n);
+    assert_eq!((after.phase, after.halt_number), (COMMIT_SENT, 0));
+    assert_eq!(after.second, stored);
+    println!("ok halts");
+}
+
+fn half_grounds() {
+    let n = 2;
+    let good = opening_record(n, 2);
+    let mut bad = good.clone();
+    bad.member = 0;
+    let mut block = block_from_words(&vec![0; block_words(n)], n);
+    let idle = block_to_words(&block);
+    block.phase = SUBMIT_SENT;
+    block.slot = 2;
+    block.op_type = READ;
+    let waiting = block_to_words(&block);
+    block.crash_mark = 1;
+    let crashed = block_to_words(&block);
+    block.crash_mark = 0;
+    block.phase = COMMIT_SENT;
+    let committed = block_to_words(&block);
+
+    let reply = |words: &[u32], n: u32, member: u32, seals: u32, newest: &Record| {
+        let mut words = words.to_vec();
+        let before = words.clone();
+        let answer = half_take_reply(&mut words, n, member, seals, newest, &good);
+        if answer.is_err() {
+            assert_eq!(words, before);
+        }
+        answer.err().unwrap_or(0)
+    };
+    assert_eq!(reply(&waiting, 0, 1, 3, &good), 1);
+    assert_eq!(reply(&waiting, 13, 1, 3, &good), 1);
+    assert_eq!(reply(&waiting[1..], 2, 1, 3, &good), 2);
+    assert_eq!(reply(&[], 2, 1, 3, &good), 2);
+    assert_eq!(reply(&waiting, 2, 2, 3, &good), 3); // member 2 may not read slot 2
+    assert_eq!(reply(&waiting, 2, 7, 3, &good), 4); // member 7 would be allowed to
+    assert_eq!(reply(&idle, 2, 0, 3, &good), 4);
+    assert_eq!(reply(&idle, 2, 1, 9, &bad), 10);
+    assert_eq!(reply(&committed, 2, 1, 3, &good), 10);
+    assert_eq!(reply(&crashed, 2, 1, 9, &bad), 10);
+    assert_eq!(reply(&waiting, 2, 1, 4, &good), 15);
+    assert_eq!(reply(&waiting, 2, 1, 3, &bad), 15);
+    assert_eq!(reply(&waiting, 2, 1, 0, &good), 0); // a halt is no refusal
+
+    let outcome = |words: &[u32], member: u32, outcome: u32| {
+        let mut words = words.to_vec();
+        half_take_outcome(&mut words, 2, member, outcome).number
+    };
+    assert_eq!(outcome(&committed, 5, 1), 4);
+    assert_eq!(outcome(&waiting, 1, 0), 10);
+    assert_eq!(outcome(&committed, 1, 0), 15);
+    assert_eq!(outcome(&committed, 1, 3), 15);
+    assert_eq!(outcome(&committed, 1, 2), 0);
+
+    let mut entries = new_table(n)[entries_start(n)..].to_vec();
+    let submit = |member: u32, slot: u32, op_type: u32| Submit { member, slot, op_type, count: 1 };
+    assert_eq!(host_submit(&mut entries, 0, &submit(0, 0, 0)), Err(1));
+    assert_eq!(host_submit(&mut entries, 3, &submit(0, 0, 0)), Err(2));
+    assert_eq!(host_submit(&mut entries, 2, &submit(3, 0, 0)), Err(4));
+    assert_eq!(host_submit(&mut entries, 2, &submit(1, 3, 0)), Err(5));
+    assert_eq!(host_submit(&mut entries, 2, &submit(1, 1, 0)), Err(6));
+    assert_eq!(host_submit(&mut entries, 2, &submit(1, 1, READ)), Err(7));
+    assert_eq!(host_submit(&mut entries, 2, &submit(1, 2, WRITE)), Err(7));
+    assert_eq!(entries, new_table(n)[entries_start(n)..].to_vec());
+    entries[2] = 3;
+    assert_eq!(host_submit(&mut entries, 2, &submit(3, 0, 0)), Err(3));
+    assert_eq!(host_commit(&mut entries, 2, &bad), Err(3));
+    println!("ok half grounds");
+}
+
+// ---------------------------------------------------------------- messages
+
+fn message_grounds() {
+    let n = 2;
+    let mut bytes = vec![0xEE; 70];
+    let record = opening_record(n, 2);
+    let length = messages::write(&Message::Commit(record.clone()), n, &mut bytes).unwrap();
+    assert_eq!(length, 60);
+    assert!(bytes[60..].iter().all(|b| *b == 0xEE));
+    bytes.truncate(60);
+    assert_eq!(bytes[..8], [0, 58, 1, 3, 2, 2, 2, 2]);
+    assert_eq!(messages::check(&bytes, n), 0);
+    assert_eq!(messages::check(&bytes, 0), 1);
+    assert_eq!(messages::check(&[], 13), 1);
+    assert_eq!(messages::check(&bytes[..3], n), 12);
+    assert_eq!(messages::check(&bytes[..59], n), 12);
+    assert_eq!(messages::check(&bytes, 3), 15);
+    for (place, byte, number) in
+        [(0, 1, 12), (1, 57, 12), (2, 0, 13), (2, 2, 13), (3, 0, 14), (3, 5, 14), (3, 1, 15), (3, 2, 15), (4, 3, 15), (5, 0, 15), (5, 3, 15), (6, 0, 15), (6, 3, 15), (7, 0, 15), (7, 3, 15), (8, 9, 0), (59, 255, 0)]
+    {
+        let mut changed = bytes.clone();
+        changed[place] = byte;
+        assert_eq!(messages::check(&changed, n), number, "byte {} set to {}", place, byte);
+    }
+    for (outcome, number) in [(0, 15), (1, 0), (2, 0), (3, 15)] {
+        assert_eq!(messages::check(&[0, 3, 1, 4, outcome], n), number);
+    }
+    assert_eq!(messages::check(&[0, 2, 1, 4], n), 15);
+    assert_eq!(messages::check(&[0, 9, 1, 1, 1, 2, 1, 0, 0, 0, 0], n), 0);
+    assert_eq!(messages::check(&[0, 9, 1, 1, 1, 1, 1, 0, 0, 0, 0], n), 0); // 7 is no ground here
+    // The writer: 1, then 15, then 16.
+    let mut bad = record.clone();
+    bad.member = 258;
+    let mut out = [7u8; 59];
+    assert_eq!(messages::write(&Message::Commit(bad.clone()), 0, &mut out), Err(1));
+    assert_eq!(messages::write(&Message::Commit(bad), n, &mut out), Err(15));
+    assert_eq!(messages::write(&Message::Commit(record), n, &mut out), Err(16));
+    assert_eq!(messages::write(&Message::Outcome(3), n, &mut out), Err(15));
+    assert_eq!(out, [7u8; 59]);
+    println!("ok message grounds");
+}
+
+fn random_record(rng: &mut Rng, n: u32) -> Record {
+    let mut record = zero_record(n);
+    record.member = rng.between(1, n);
+    record.slot = rng.between(1, n);
+    record.op_type = rng.between(1, 2);
+    record.count = rng.word();
+    for i in 0..8 {
+        record.sheet[i] = rng.word();
+    }
+    for row in record.matrix.iter_mut() {
+        for count in row.iter_mut() {
+            *count = rng.word();
+        }
+    }
+    record
+}
+
+fn message_round_trips(rng: &mut Rng) {
+    let mut made = 0;
+    for n in 1..=12 {
+        for _ in 0..100 {
+            let record = random_record(rng, n);
+            let submit = Submit { member: record.member, slot: record.slot, op_type: record.op_type, count: record.count };
+            let all = [
+                Message::Submit(submit),
+                Message::Reply { newest: record.clone(), stored: random_record(rng, n) },
+                Message::Commit(record),
+                Message::Outcome(rng.between(1, 2)),
+            ];
+            for message in &all {
+                let mut out = vec![0xAB; 1300];
+                let length = messages::write(message, n, &mut out).unwrap();
+                assert!(out[length..].iter().all(|b| *b == 0xAB));
+                assert_eq!(messages::check(&out[..length], n), 0);
+                assert_eq!(messages::read(&out[..length], n), Ok(message.clone()));
+                let mut exact = vec![0; length];
+                assert_eq!(messages::write(message, n, &mut exact), Ok(length));
+                assert_eq!(exact[..], out[..length]);
+                assert_eq!(messages::write(message, n, &mut exact[1..]), Err(16));
+                assert_eq!(messages::check(&out[..length + 1], n), 12);
+                assert_eq!(messages::check(&out[..length - 1], n), 12);
+                made += 1;
+            }
+        }
+    }
+    println!("ok message round trips: {}", made);
+}
+
+// ---------------------------------------------------------------- random runs
+
+#[derive(Default)]
+struct Tally {
+    calls: u64,
+    accepted: u64,
+    aborted: u64,
+    crashes: u64,
+    returned: u64,
+    answers: [u64; 12],
+}
+
+/// How a run is driven.
+struct Style {
+    slots: u32,        // operations go to the slots 1 to this
+    crash_once_in: u64,
+    bad_once_in: u64,
+    steps: u32,
+}
+
+fn random_sheet(rng: &mut Rng) -> Sheet {
+    let mut sheet = [0; 8];
+    for i in 0..8 {
+        sheet[i] = rng.word();
+    }
+    sheet
+}
+
+fn random_call(rng: &mut Rng, n: u32, style: &Style, table: &[u32]) -> Call {
+    if rng.once_in(style.bad_once_in) {
+        let edge = [0, 1, n, n + 1, 12, 13, u32::MAX];
+        let member = *rng.pick(&edge);
+        return match rng.below(3) {
+            0 => Call::Begin { member, slot: *rng.pick(&edge), op_type: rng.between(0, 3), sheet: random_sheet(rng) },
+            1 => Call::Deliver { member },
+            _ => Call::Crash { member },
+        };
+    }
+    let member = rng.between(1, n);
+    if rng.once_in(style.crash_once_in) {
+        return Call::Crash { member };
+    }
+    if phase_of(table, member) == IDLE {
+        let slot = rng.between(1, style.slots);
+        let op_type = if slot == member { WRITE } else { READ };
+        return Call::Begin { member, slot, op_type, sheet: random_sheet(rng) };
+    }
+    Call::Deliver { member }
+}
+
+fn call_board(table: &mut Vec<u32>, call: &Call) -> Answer {
+    match call {
+        Call::Begin { member, slot, op_type, sheet } => {
+            Answer { number: begin(table, *member, *slot, *op_type, sheet), returned: None }
+        }
+        Call::Deliver { member } => deliver(table, *member),
+        Call::Crash { member } => Answer { number: crash(table, *member), returned: None },
+    }
+}
+
+fn through_bytes(message: Message, n: u32) -> Message {
+    let mut bytes = vec![0; 1300];
+    let length = messages::write(&message, n, &mut bytes).unwrap();
+    messages::read(&bytes[..length], n).unwrap()
+}
+
+/// The two halves apart, with messages as bytes between them.
+struct Apart {
+    n: u32,
+    blocks: Vec<Vec<u32>>,
+    entries: Vec<u32>,
+    to_host: Vec<Option<Message>>,
+    to_member: Vec<Option<Message>>,
+}
+
+impl Apart {
+    fn new(n: u32) -> Apart {
+        Apart {
+            n,
+            blocks: vec![vec![0; block_words(n)]; n as usize],
+            entries: new_table(n)[entries_start(n)..].to_vec(),
+            to_host: vec![None; n as usize],
+            to_member: vec![None; n as usize],
+        }
+    }
+
+    /// Does what the board did at a call that it answered 0.
+    fn follow(&mut self, call: &Call) -> Option<Sheet> {
+        let n = self.n;
+        match call {
+            Call::Begin { member, slot, op_type, sheet } => {
+                let m = *member as usize - 1;
+                let submit = half_begin(&mut self.blocks[m], n, *member, *slot, *op_type, sheet).unwrap();
+                self.to_host[m] = Some(through_bytes(Message::Submit(submit), n));
+                None
+            }
+            Call::Crash { member } => {
+                let m = *member as usize - 1;
+                assert_eq!(half_crash(&mut self.blocks[m], n, *member), 0);
+                None
+            }
+            Call::Deliver { member } => {
+                let m = *member as usize - 1;
+                if let Some(message) = self.to_host[m].take() {
+                    let answer = match message {
+                        Message::Submit(submit) => {
+                            let (newest, stored) = host_submit(&mut self.entries, n, &submit).unwrap();
+                            Message::Reply { newest, stored }
+                        }
+                        Message::Commit(record) => Message::Outcome(host_commit(&mut self.entries, n, &record).unwrap()),
+                        _ => panic!("not for the host"),
+                    };
+                    self.to_member[m] = Some(through_bytes(answer, n));
+                    return None;
+                }
+                match self.to_member[m].take().unwrap() {
+                    Message::Reply { newest, stored } => {
+                        let commit = half_take_reply(&mut self.blocks[m], n, *member, 3, &newest, &stored).unwrap().unwrap();
+                        self.to_host[m] = Some(through_bytes(Message::Commit(commit), n));
+                        None
+                    }
+                    Message::Outcome(outcome) => {
+                        let answer = half_take_outcome(&mut self.blocks[m], n, *member, outcome);
+                        assert_eq!(answer.number, 0);
+                        answer.returned
+                    }
+                    _ => panic!("not for a member"),
+                }
+            }
+        }
+    }
+}
+
+fn random_run(rng: &mut Rng, n: u32, style: &Style, tally: &mut Tally) {
+    let mut table = new_table(n);
+    let mut book = Book::new(n);
+    let mut apart = Apart::new(n);
+    // The serial history, from what the board shows: one sheet for each slot,
+    // and what each member's accepted read must return.
+    let mut serial = vec![[0u32; 8]; n as usize];
+    let mut must_return: Vec<Option<Sheet>> = vec![None; n as usize];
+    let mut rows = zero_matrix(n); // counts of the accepted operations
+
+    for _ in 0..style.steps {
+        let call = random_call(rng, n, style, &table);
+        let before = table.clone();
+        let answer = call_board(&mut table, &call);
+        let (number, returned) = book.call(&call);
+        tally.calls += 1;
+        tally.answers[number as usize] += 1;
+
+        assert_eq!(answer.number, number, "{:?}", call);
+        assert_eq!(answer.returned, returned, "{:?}", call);
+        for member in 1..=n {
+            assert_eq!(phase_of(&table, member), book.phase(member), "{:?}", call);
+        }
+        assert_eq!(check_table(&table), 0);
+        for member in 1..=n {
+            assert_ne!(phase_of(&table, member), HALTED);
+        }
+        if answer.number != 0 {
+            assert_eq!(table, before);
+            continue;
+        }
+
+        let by_halves = apart.follow(&call);
+        assert_eq!(by_halves, answer.returned);
+        assert_eq!(apart.entries[..], table[entries_start(n)..]);
+
+        match call {
+            Call::Crash { member } => {
+                tally.crashes += 1;
+                let mut only_mark = before.clone();
+                only_mark[block_start(n, member) + 1] = 1;
+                assert_eq!(table, only_mark);
+            }
+            Call::Begin { member, .. } => {
+                let block = block_of(&table, member);
+                assert_eq!(block_from_words(&apart.blocks[member as usize - 1], n), block);
+            }
+            Call::Deliver { member } => {
+                let m = member as usize - 1;
+                let old = block_of(&before, member);
+                let new = block_of(&table, member);
+                let r = old.slot as usize - 1;
+                if new.phase == COMMIT_SENT || new.phase == IDLE {
+                    assert_eq!(block_from_words(&apart.blocks[m], n), new);
+                }
+                if new.phase == ACCEPTED_SENT {
+                    tally.accepted += 1;
+                    rows[r][m] = old.own_counts[r];
+                    if old.op_type == WRITE {
+                        serial[r] = old.pending_sheet;
+                    } else {
+                        must_return[m] = Some(serial[r]);
+                    }
+                    let line = book.history.last().unwrap();
+                    assert_eq!((line.member, line.slot, line.op_type, line.sheet), (member, old.slot, old.op_type, serial[r]));
+                }
+                if new.phase == ABORTED_SENT {
+                    tally.aborted += 1;
+                    assert_eq!(table[entries_start(n)..], before[entries_start(n)..]);
+                }
+                if new.phase == IDLE {
+                    assert_eq!(answer.returned, must_return[m].take());
+                    if answer.returned.is_some() {
+                        tally.returned += 1;
+                    }
+                }
+                // The host holds the last write, and each slot's row the accepted counts.
+                for slot in 1..=n {
+                    let entry = entry_of(&table, slot);
+                    let s = slot as usize - 1;
+                    assert_eq!(entry.stored.sheet, serial[s]);
+                    assert_eq!(entry.stored.member, slot);
+                    assert_eq!(entry.newest.matrix[s], rows[s]);
+                }
+            }
+        }
+    }
+    // The history replayed from the start.
+    let mut sheets = vec![[0u32; 8]; n as usize];
+    for line in &book.history {
+        let s = line.slot as usize - 1;
+        if line.op_type == WRITE {
+            sheets[s] = line.sheet;
+        }
+        assert_eq!(sheets[s], line.sheet);
+    }
+    assert_eq!(sheets, book.sheets);
+}
+
+fn random_runs(seed: u64, runs: u32) {
+    for n in 1..=12 {
+        let mut tally = Tally::default();
+        let mut rng = Rng::new(seed.wrapping_mul(1000).wrapping_add(n as u64));
+        for run in 0..runs {
+            let style = Style {
+                slots: *rng.pick(&[1, n, n, n / 2 + 1]),
+                crash_once_in: *rng.pick(&[60, 300, 1_000_000]),
+                bad_once_in: *rng.pick(&[10, 100]),
+                steps: if run % 10 == 0 { 3000 } else { 400 },
+            };
+            random_run(&mut rng, n, &style, &mut tally);
+        }
+        println!(
+            "ok runs n {}: calls {} accepted {} aborted {} crashes {} returned {} by answer {:?}",
+            n, tally.calls, tally.accepted, tally.aborted, tally.crashes, tally.returned, tally.answers
+        );
+        assert!(tally.accepted > 0 && tally.crashes > 0);
+        assert!(n == 1 || (tally.aborted > 0 && tally.returned > 0));
+    }
+}
+
+// ---------------------------------------------------------------- lent tables of any words
+
+/// A refusal changes nothing; after 0 the table is still good.
+fn strange_tables(rng: &mut Rng) {
+    let mut done = 0;
+    let mut refused = 0;
+    let mut halts = [0u64; 28];
+    for _ in 0..40_000 {
+        let n = rng.between(1, 5);
+        let style = Style { slots: n, crash_once_in: 100, bad_once_in: 50, steps: 0 };
+        let mut table = new_table(n);
+        for _ in 0..rng.between(0, 40) {
+            let call = random_call(rng, n, &style, &table);
+            call_board(&mut table, &call);
+        }
+        for _ in 0..rng.between(1, 6) {
+            let place = rng.below(table.len() as u64) as usize;
+            table[place] = *rng.pick(&[0, 1, 2, n, n + 1, 7, 22, u32::MAX - 1, u32::MAX]);
+        }
+        for _ in 0..4 {
+            let before = table.clone();
+            let call = if n_is_good(table[0]) && check_table(&table) == 0 {
+                random_call(rng, table[0], &style, &table)
+            } else {
+                Call::Deliver { member: 1 }
+            };
+            let answer = call_board(&mut table, &call);
+            if answer.number != 0 {
+                assert_eq!(table, before);
+                refused += 1;
+                continue;
+            }
+            assert_eq!(check_table(&table), 0);
+            done += 1;
+            if let Call::Deliver { member } = call {
+                if phase_of(&table, member) == HALTED {
+                    halts[block_of(&table, member).halt_number as usize] += 1;
+                }
+            }
+        }
+    }
+    println!("ok strange tables: done {} refused {} halts 22 to 27 {:?}", done, refused, &halts[22..]);
+}
