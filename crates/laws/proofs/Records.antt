@@ -156,15 +156,15 @@ pub valueOf-at : (w : ℕ → ℕ) (i : ℕ) → i < 8 → valueOf w (i + 1) ≡
 unfolding valueOf
 valueOf-at w i h = numbered-at 8 0 w i h
 
-some : (n i : ℕ) → i < n * n → 0 < n
-some zero i h = absurd (omega arith)
-some (suc n) i h = omega arith
+pub square-pos : (n i : ℕ) → i < n * n → 0 < n
+square-pos zero i h = absurd (omega arith)
+square-pos (suc n) i h = omega arith
 
 pub matrixWord-of : (n : ℕ) (w : ℕ → ℕ) (i : ℕ) → i < n * n → matrixWord n (matrixOf n w) i ≡ w i
 unfolding matrixWord from
 matrixWord-of n w i h =
-    ap (λ a. a (i % n + 1)) (matrixOf-at n w (i / n) (div-lt-iff-lt-mul (some n i h) .1 h))
-    ∙ rowOf-at n (from w (i / n * n)) (i % n) (mod-lt i (some n i h))
+    ap (λ a. a (i % n + 1)) (matrixOf-at n w (i / n) (div-lt-iff-lt-mul (square-pos n i h) .1 h))
+    ∙ rowOf-at n (from w (i / n * n)) (i % n) (mod-lt i (square-pos n i h))
     ∙ ap w (div-add-mod' i n)
 
 pub row-listed : (n : ℕ) (w : ℕ → ℕ) → listed n (rowOf n w) ≡ tabulate n w

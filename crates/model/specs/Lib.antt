@@ -14,5 +14,6 @@ pub mod Table
 pub mod Halves
 pub mod TableCalls
 pub mod Script
+pub mod Messages
 pub mod Published
 pub mod PublishedClaims

@@ -1,5 +1,6 @@
 // Records: what a member commits and the host keeps, by value and in table words.
 ghost use mathlib.Core.Path.{_≡_};
+ghost use mathlib.Core.Bool.{_&&_};
 ghost use Rattle.model.specs.Records.{opening as openingOf, zeroRecord};
 ghost use Rattle.lists.specs.Functions.{inside};
 ghost use Rattle.model.specs.Kinds.{concur, isOperation, barred};
@@ -44,6 +45,19 @@ pub fn is_barred(member: u32, slot: u32, operation: u32) -> bool
     member == slot
 }
 
+// Are member and slot one of 1 to n, and is the type one? So a message's fields are judged.
+pub fn is_fit(member: u32, slot: u32, operation: u32, n: u32) -> bool
+    ensures { λ r. ⌜ r ≡ (inside n member && inside n slot && isOperation operation) ⌝ }
+{
+    if !is_numbered(member, n) {
+        return false;
+    }
+    if !is_numbered(slot, n) {
+        return false;
+    }
+    is_operation(operation)
+}
+
 pub struct Record {
     pub member: u32,
     pub slot: u32,
@@ -71,17 +85,11 @@ impl Record {
         }
     }
 
-    // Are member and slot one of 1 to n, and is the type one? So a message's record is judged.
+    // Are its fields those of a record that came in a message?
     pub fn fits(self, n: u32) -> bool
         ensures { λ r. ⌜ r ≡ fitRecord n (recordIn self) ⌝ }
     {
-        if !is_numbered(self.member, n) {
-            return false;
-        }
-        if !is_numbered(self.slot, n) {
-            return false;
-        }
-        is_operation(self.operation)
+        is_fit(self.member, self.slot, self.operation, n)
     }
 
     // The opening record of a slot: a write by its owner with count, value and matrix zero.

@@ -8,7 +8,7 @@ use native.Mathlib.Omega.{arith}
 use lib.Dec.{eqb}
 use lib.ListN.{length, getD}
 use borrow.Author.Tests.{eqb-true}
-use Rattle.lists.specs.Functions.{put, within, inside, each}
+use Rattle.lists.specs.Functions.{put, from, within, inside, each}
 use Rattle.lists.specs.Parts.{tabulate}
 use Rattle.lists.proofs.Functions.{first, second}
 use Rattle.model.specs.Rows.{zeroRow, zeroMatrix, below, matrixBelow, comparable, larger}
@@ -20,16 +20,19 @@ use Rattle.model.specs.Host.{submitted, wins, entryAfter, storedAfter}
 use Rattle.model.specs.Board.{openingEntry, opened, withMember, boardBegun, submitTaken, replyTaken, sentRecord, commitTaken, outcomeTaken, boardDelivered, boardReturned, boardCrashed}
 use Rattle.model.specs.Runs.{answerOf, done, doneReturns, after, seenAt, run}
 use Rattle.model.specs.Demand3.{Every}
+use Rattle.model.specs.RecordWords.{matrixWord, recordWords}
+use Rattle.model.specs.Messages.{kindOf, numberBytes, byteIn, headed, recordByte, recordLength, recordBytes, fieldBytes, framed, encode}
 use Rattle.runs.specs.Case.{left, caller, lastWord, line, printed, rowsOf, recordLine, unless, failingOf, takingOf, found, every, alike, Case, Holds, holds}
 use Rattle.runs.specs.Cases.{cases, example}
 
 pub all-pass : every holds cases ≡ true
-unfolding put within inside each tabulate zeroRow zeroMatrix below matrixBelow comparable larger zeroValue opening isOperation
+unfolding put from within inside each tabulate zeroRow zeroMatrix below matrixBelow comparable larger zeroValue opening isOperation
     barred becomesStored beginAnswer deliverAnswer crashAnswer idle begun answered check21 check22 check23 check24 check25 check26
     check27 haltNumber joined ownRecord passed failed replied judged completed tookOver dropped outcome returnedBy crashedOf submitted wins
     entryAfter storedAfter openingEntry opened withMember boardBegun submitTaken replyTaken sentRecord commitTaken outcomeTaken
     boardDelivered boardReturned boardCrashed answerOf done doneReturns after seenAt run left caller lastWord line printed rowsOf
-    recordLine unless failingOf takingOf found every alike holds
+    recordLine unless failingOf takingOf matrixWord recordWords kindOf numberBytes byteIn headed recordByte recordLength recordBytes
+    fieldBytes framed encode found every alike holds
 all-pass = refl
 
 module _ {A : Type 0} where

@@ -6,6 +6,7 @@ use mathlib.Core.Bool.{Bool, true, false, cond, _&&_}
 use mathlib.Core.List.{List, [], _∷_, _++_}
 use mathlib.Core.Option.{Option, none, some}
 use lib.Dec.{eqb}
+use lib.ListN.{length}
 use Rattle.lists.specs.Functions.{put}
 use Rattle.lists.specs.Parts.{listed}
 use Rattle.model.specs.Rows.{Matrix}
@@ -15,6 +16,7 @@ use Rattle.model.specs.Member.{Member, check21, check22, check23, check24, chec
 use Rattle.model.specs.Board.{Board}
 use Rattle.model.specs.Runs.{Call, begin, deliver, crash, Seen, run, after}
 use Rattle.model.specs.Demand3.{Every}
+use Rattle.model.specs.Messages.{reply, commit, encode}
 
 -- Scripts, as document 01's board program reads them.
 
@@ -56,6 +58,8 @@ pub data Question : Type 0 where
   -- checks that fail, and the phase and halt number that the member then has
   failing : ℕ → ℕ → Question
   taking : ℕ → ℕ → Question
+  -- how many bytes a commit of a slot's newest record is, and a reply with the slot's two records: whole messages
+  sizes : ℕ → Question
 
 -- a question and the lines that answer it
 pub record Claim : Type 0 where
@@ -133,6 +137,9 @@ found c phases = listed (c .n) (λ i. left (c .n) (c .start) (c .calls) .members
 found c halts = listed (c .n) (λ i. left (c .n) (c .start) (c .calls) .members i .halt) ∷ []
 found c (failing i seals) = failingOf (c .n) i (c .start .members i) seals ∷ []
 found c (taking i seals) = takingOf (c .n) i (c .start .members i) seals ∷ []
+found c (sizes r) =
+    let b = left (c .n) (c .start) (c .calls) in
+    (length (encode (c .n) (commit (b .host r .newest))) ∷ length (encode (c .n) (reply (b .host r .newest) (b .stored r))) ∷ []) ∷ []
 
 module _ {A : Type 0} where
   -- does the test pass at every element

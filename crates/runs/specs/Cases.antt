@@ -20,6 +20,7 @@ use Rattle.runs.specs.Case.{
   halts,
   failing,
   taking,
+  sizes,
   _is_,
   Case,
 }
@@ -292,6 +293,18 @@ seals = record {
 abbrev pub p11 : Case
 p11 = halting 22 [] (reading (rows zeroRow (row 0 2)) (by 2 (rows zeroRow (row 0 1))) (by 2 (rows zeroRow (row 0 1))))
 
+-- "whole commit and reply are 60 and 115 bytes for n = 2, 620 and 1,235 for n = 12"
+abbrev pub sized : ℕ → ℕ → ℕ → Case
+sized n committed replied = record {
+  n = n;
+  start = opened n;
+  calls = wholeWrite 1 77;
+  claims = sizes 1 is (pair committed replied ∷ []) ∷ [];
+}
+
+abbrev pub p12 : List Case
+p12 = sized 2 60 115 ∷ sized 12 620 1235 ∷ []
+
 -- Each other check alone; 25 has two grounds. 26 also rules out the false "Dropping check 26 and taking each entry at the larger".
 abbrev pub alone : List Case
 alone =
@@ -333,5 +346,6 @@ abbrev pub cases : List Case
 cases =
     (example ∷ p2 ∷ p3 ∷ p4 ∷ p5 ∷ p6 ∷ p7 ∷ p8 ∷ p9 ∷ p10 ∷ p11 ∷ [])
     ++ (refusals ∷ newerWins ∷ crashedSubmit ∷ crashedOvertakes ∷ readsNotStored ∷ ownReadsNotStored ∷ seals ∷ unsealed ∷ [])
+    ++ p12
     ++ alone
     ++ mended

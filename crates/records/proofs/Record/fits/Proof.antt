@@ -1,46 +1,16 @@
 -- `Record::fits` meets its contract. Assumes nothing.
-use mathlib.Core.Path.{_≡_, refl, sym, _∙_}
-use borrow.Author.Tests.{not-true, not-false}
+use borrow.Author.Needs.{needs}
 use Rattle.model.specs.Halves.{fitRecord}
 use Rattle.records.specs.Meaning.{recordIn}
-use borrow.Author.Needs.{needs}
 use Rattle.records.proofs.Record.fits.Statement.{statement}
 use Rattle.records.proofs.Record.fits.Tie as tie
 
-is-numbered-requires : tie.Need-is-numbered-requires
-is-numbered-requires c κs = search needs
+is-fit-requires : tie.Need-is-fit-requires
+is-fit-requires c κs = search needs
 
 returns : tie.Need-returns
 unfolding fitRecord recordIn
-returns c = rw (sym (c .before .is-numbered .ensures) ∙ not-true _ (c .if1 .taken))
-
-is-numbered-requires-2 : tie.Need-is-numbered-requires-2
-is-numbered-requires-2 c κs = search needs
-
-returns-2 : tie.Need-returns-2
-unfolding fitRecord recordIn
-returns-2 c = rw (
-  sym (c .before .before .before .is-numbered .ensures) ∙ not-false _ (c .before .before .if1 .left),
-  sym (c .before .is-numbered2 .ensures) ∙ not-true _ (c .if2 .taken),
-)
-
-is-operation-requires : tie.Need-is-operation-requires
-is-operation-requires c κs = search needs
-
-returns-3 : tie.Need-returns-3
-unfolding fitRecord recordIn
-returns-3 c = rw (
-  sym (c .before .before .before .before .is-numbered .ensures) ∙ not-false _ (c .before .before .before .if1 .left),
-  sym (c .before .before .is-numbered2 .ensures) ∙ not-false _ (c .before .if2 .left),
-) (c .is-operation .ensures)
+returns c = c .is-fit .ensures
 
 pub fits-spec : {M : Type 1} → statement M
-fits-spec =
-    tie.close
-    (tie.spec
-    is-numbered-requires
-    returns
-    is-numbered-requires-2
-    returns-2
-    is-operation-requires
-    returns-3)
+fits-spec = tie.close (tie.spec is-fit-requires returns)

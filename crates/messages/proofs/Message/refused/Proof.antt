@@ -1,0 +1,31 @@
+-- `Message::refused` meets its contract. Assumes nothing.
+use borrow.Author.Needs.{needs}
+use mathlib.Core.Path.{refl}
+use Rattle.messages.specs.Meaning.{fieldsIn, fieldsOf}
+use Rattle.messages.proofs.Message.refused.Statement.{statement}
+use Rattle.messages.proofs.Message.refused.Tie as tie
+
+zero-requires : tie.Need-zero-requires
+zero-requires c κs = search needs
+
+zero-requires-2 : tie.Need-zero-requires-2
+zero-requires-2 c κs = search needs
+
+returns : tie.Need-returns
+unfolding fieldsIn fieldsOf
+returns c = (
+  refl,
+  λ i. record {
+    kind = 0;
+    member = 0;
+    slot = 0;
+    operation = 0;
+    count = 0;
+    result = 0;
+    newest = c .before .zero .ensures i;
+    stored = c .zero2 .ensures i;
+  },
+)
+
+pub refused-spec : {M : Type 1} → statement M
+refused-spec = tie.close (tie.spec zero-requires zero-requires-2 returns)

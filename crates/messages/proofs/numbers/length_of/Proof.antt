@@ -1,0 +1,45 @@
+-- `length_of` meets its contract: the table is the rule at each of its 48 places, which is computed. Assumes nothing.
+use borrow.Author.Needs.{needs}
+use Prim.Native.Nat.{ℕ, _+_, _-_, _*_, _/_, _%_}
+use mathlib.Core.Path.{_≡_, _∙_}
+use native.Mathlib.Omega.{arith}
+use Rattle.lists.specs.Parts.{tabulate}
+use Rattle.lists.proofs.Parts.{tabulate-at}
+use Rattle.model.specs.Messages.{lengthOf}
+use Rattle.messages.proofs.numbers.length_of.Statement.{statement}
+use Rattle.messages.proofs.numbers.length_of.Tie as tie
+
+sub-at : tie.Need-sub-at
+sub-at c = search needs
+
+mul-at : tie.Need-mul-at
+mul-at c = search needs
+
+sub-at-2 : tie.Need-sub-at-2
+sub-at-2 c = search needs
+
+add-at : tie.Need-add-at
+add-at c = search needs
+
+cast-result : tie.Need-cast-result
+cast-result c = search needs
+
+mul-result : tie.Need-mul-result
+mul-result c = search needs
+
+array-read-result : tie.Need-array-read-result
+array-read-result c = search needs
+
+returns : tie.Need-returns
+unfolding tabulate lengthOf
+returns c =
+    let a = c .args in
+    let k : ℕ = (a .kind - 1) * 12 + (a .n - 1) in
+    let kind : k / 12 + 1 ≡ a .kind = omega arith in
+    let n : k % 12 + 1 ≡ a .n = omega arith in
+    tabulate-at 48 (λ k. lengthOf (k / 12 + 1) (k % 12 + 1)) k (omega arith) ∙ (λ i. lengthOf (kind i) (n i))
+
+pub length-of-spec : {M : Type 1} → statement M
+length-of-spec =
+    tie.close
+    (tie.spec sub-at mul-at sub-at-2 add-at cast-result mul-result array-read-result returns)

@@ -1,0 +1,93 @@
+-- What a message held by value stands for: the struct's fields but its number, which the reader sets and the writer does not look at.
+use Prim.Native.Nat.{ℕ}
+use mathlib.Core.Bool.{cond}
+use mathlib.Core.Option.{Option, none, some}
+use lib.Dec.{eqb}
+use Rattle.model.specs.Records.{Rec, zeroRecord}
+use Rattle.model.specs.Messages.{Message, submit, reply, commit, outcome}
+use Rattle.records.specs.Meaning.{recordIn}
+use Rattle.messages.specs.declared.Message.{Message as MessageStruct}
+
+pub record Fields : Type 0 where
+  pub kind : ℕ
+  pub member : ℕ
+  pub slot : ℕ
+  pub operation : ℕ
+  pub count : ℕ
+  pub result : ℕ
+  pub newest : Rec
+  pub stored : Rec
+
+unfoldable pub fieldsIn : MessageStruct → Fields
+fieldsIn m = record {
+  kind = m .kind;
+  member = m .member;
+  slot = m .slot;
+  operation = m .operation;
+  count = m .count;
+  result = m .outcome;
+  newest = recordIn (m .newest);
+  stored = recordIn (m .stored);
+}
+
+-- The reader: a message's parts, the unused ones zero, a commit's record in `newest`; all zero where there is none.
+unfoldable pub fieldsOf : Option Message → Fields
+fieldsOf none = record {
+  kind = 0;
+  member = 0;
+  slot = 0;
+  operation = 0;
+  count = 0;
+  result = 0;
+  newest = zeroRecord;
+  stored = zeroRecord;
+}
+fieldsOf (some (submit i r t c)) = record {
+  kind = 1;
+  member = i;
+  slot = r;
+  operation = t;
+  count = c;
+  result = 0;
+  newest = zeroRecord;
+  stored = zeroRecord;
+}
+fieldsOf (some (reply a b)) = record {
+  kind = 2;
+  member = 0;
+  slot = 0;
+  operation = 0;
+  count = 0;
+  result = 0;
+  newest = a;
+  stored = b;
+}
+fieldsOf (some (commit a)) = record {
+  kind = 3;
+  member = 0;
+  slot = 0;
+  operation = 0;
+  count = 0;
+  result = 0;
+  newest = a;
+  stored = zeroRecord;
+}
+fieldsOf (some (outcome o)) = record {
+  kind = 4;
+  member = 0;
+  slot = 0;
+  operation = 0;
+  count = 0;
+  result = o;
+  newest = zeroRecord;
+  stored = zeroRecord;
+}
+
+-- The writer: the message of a kind, from its parts; none for a kind not 1 to 4.
+unfoldable pub messageOf : Fields → Option Message
+messageOf f =
+    cond (eqb (f .kind) 1) (some (submit (f .member) (f .slot) (f .operation) (f .count)))
+    (cond (eqb (f .kind) 2) (some (reply (f .newest) (f .stored)))
+    (cond (eqb (f .kind) 3) (some (commit (f .newest)))
+    (cond (eqb (f .kind) 4) (some (outcome (f .result)))
+    none)))

@@ -1,0 +1,153 @@
+// Numbers and records in a message's bytes, big-endian. Each function asks what its callers prove.
+ghost use mathlib.Core.Path.{_≡_};
+ghost use Prim.Native.Nat.{_+_, _*_, _≤_, _<_};
+ghost use lib.ListN.{length};
+ghost use Rattle.lists.specs.Functions.{from, pasted};
+ghost use Rattle.lists.specs.Parts.{words};
+ghost use Rattle.model.specs.RecordWords.{rowOf, matrixOf, valueOf, matrixWord, recordWords};
+ghost use Rattle.model.specs.Messages.{numberBytes, numberOf, byteIn, numberIn, recordByte, recordLength, recordFrom};
+ghost use Rattle.rows.specs.Meaning.{rowIn, matrixIn};
+ghost use Rattle.records.specs.Meaning.{recordIn};
+use records::Record;
+use rows::Row;
+
+// Where the count, the value and the matrix of a record begin.
+const COUNT_AT: usize = 3;
+
+const VALUE_AT: usize = 7;
+
+const MATRIX_AT: usize = 39;
+
+pub fn wide(x: u8) -> u32
+    ensures { λ r. ⌜ r ≡ x ⌝ }
+{
+    x as u32
+}
+
+fn big_endian(a: u8, b: u8, c: u8, d: u8) -> u32
+    ensures { λ r. ⌜ r ≡ a * 16777216 + b * 65536 + c * 256 + d ⌝ }
+{
+    (a as u32) * 16777216 + (b as u32) * 65536 + (c as u32) * 256 + (d as u32)
+}
+
+pub fn read_number(s: &[u8], at: usize) -> u32
+    requires { ⌜ at + 4 ≤ length (now s) ⌝ }
+    ensures { λ r. ⌜ r ≡ numberOf (from (words (now (s .entry))) at) ⌝ }
+{
+    big_endian(s[at], s[at + 1], s[at + 2], s[at + 3])
+}
+
+fn read_value(s: &[u8], at: usize) -> [u32; 8]
+    requires { ⌜ at + 32 ≤ length (now s) ⌝ }
+    ensures { λ r. ⌜ valueOf (words r) ≡ valueOf (numberIn (from (words (now (s .entry))) at)) ⌝ }
+{
+    let mut value = [0u32; 8];
+    let mut i = 0;
+    while i < 8 {
+        value[i] = read_number(s, at + i * 4);
+        i += 1;
+    }
+    value
+}
+
+fn read_row(s: &[u8], at: usize, n: usize) -> Row
+    requires { ⌜ (n ≤ 12) × (at + n * 4 ≤ length (now s)) ⌝ }
+    ensures { λ r. ⌜ rowIn r ≡ rowOf n (numberIn (from (words (now (s .entry))) at)) ⌝ }
+{
+    let mut row = Row::ZERO;
+    let mut i = 0;
+    while i < n {
+        row.counts[i] = read_number(s, at + i * 4);
+        i += 1;
+    }
+    row
+}
+
+fn read_matrix(s: &[u8], at: usize, n: usize) -> [Row; 12]
+    requires { ⌜ (n ≤ 12) × (at + n * n * 4 ≤ length (now s)) ⌝ }
+    ensures { λ r. ⌜ matrixIn r ≡ matrixOf n (numberIn (from (words (now (s .entry))) at)) ⌝ }
+{
+    let mut matrix = [Row::ZERO; 12];
+    let mut j = 0;
+    while j < n {
+        matrix[j] = read_row(s, at + j * n * 4, n);
+        j += 1;
+    }
+    matrix
+}
+
+// The record in the bytes from `at` on.
+pub fn read_record(s: &[u8], at: usize, n: usize) -> Record
+    requires { ⌜ (n ≤ 12) × (at + recordLength n ≤ length (now s)) ⌝ }
+    ensures { λ r. ⌜ recordIn r ≡ recordFrom n (from (words (now (s .entry))) at) ⌝ }
+{
+    let count = read_number(s, at + COUNT_AT);
+    let value = read_value(s, at + VALUE_AT);
+    let matrix = read_matrix(s, at + MATRIX_AT, n);
+    Record {
+        member: wide(s[at]),
+        slot: wide(s[at + 1]),
+        operation: wide(s[at + 2]),
+        count,
+        value,
+        matrix,
+    }
+}
+
+pub fn write_number(t: &mut [u8], at: usize, x: u32)
+    requires { ⌜ at + 4 ≤ length (now t) ⌝ }
+    ensures { λ _. ⌜ words (now (t .exit)) ≡ pasted at 4 (words (numberBytes x)) (words (now (t .entry))) ⌝ }
+{
+    t[at] = (x / 16777216 % 256) as u8;
+    t[at + 1] = (x / 65536 % 256) as u8;
+    t[at + 2] = (x / 256 % 256) as u8;
+    t[at + 3] = (x % 256) as u8;
+}
+
+fn write_value(t: &mut [u8], at: usize, value: [u32; 8])
+    requires { ⌜ at + 32 ≤ length (now t) ⌝ }
+    ensures { λ _. ⌜ words (now (t .exit)) ≡ pasted at 32 (byteIn (words value)) (words (now (t .entry))) ⌝ }
+{
+    let mut i = 0;
+    while i < 8 {
+        write_number(t, at + i * 4, value[i]);
+        i += 1;
+    }
+}
+
+fn write_row(t: &mut [u8], at: usize, n: usize, row: Row)
+    requires { ⌜ (n ≤ 12) × (at + n * 4 ≤ length (now t)) ⌝ }
+    ensures { λ _. ⌜ words (now (t .exit)) ≡ pasted at (n * 4) (byteIn (words (row .counts))) (words (now (t .entry))) ⌝ }
+{
+    let mut i = 0;
+    while i < n {
+        write_number(t, at + i * 4, row.counts[i]);
+        i += 1;
+    }
+}
+
+fn write_matrix(t: &mut [u8], at: usize, n: usize, matrix: [Row; 12])
+    requires { ⌜ (n ≤ 12) × (at + n * n * 4 ≤ length (now t)) ⌝ }
+    ensures { λ _. ⌜ words (now (t .exit)) ≡ pasted at (n * n * 4) (byteIn (matrixWord n (matrixIn matrix))) (words (now (t .entry))) ⌝ }
+{
+    let mut j = 0;
+    while j < n {
+        write_row(t, at + j * n * 4, n, matrix[j]);
+        j += 1;
+    }
+}
+
+// The record written to the bytes from `at` on.
+pub fn write_record(t: &mut [u8], at: usize, n: usize, r: Record)
+    requires { ⌜ (n ≤ 12) × ((at + recordLength n ≤ length (now t)) × ((r .member < 256) × ((r .slot < 256) × (r .operation < 256)))) ⌝ }
+    ensures { λ _. ⌜ words (now (t .exit)) ≡ pasted at (recordLength n) (recordByte (words (recordWords n (recordIn r)))) (words (now (t .entry))) ⌝ }
+{
+    t[at] = r.member as u8;
+    t[at + 1] = r.slot as u8;
+    t[at + 2] = r.operation as u8;
+    write_number(t, at + COUNT_AT, r.count);
+    let value = r.value;
+    write_value(t, at + VALUE_AT, value);
+    let matrix = r.matrix;
+    write_matrix(t, at + MATRIX_AT, n, matrix);
+}

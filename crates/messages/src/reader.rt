@@ -1,0 +1,72 @@
+// The reader's step by the kind, for bytes that no number refuses.
+ghost use mathlib.Core.Path.{_≡_};
+ghost use mathlib.Core.Option.{some};
+ghost use Prim.Native.Nat.{_+_, _≤_};
+ghost use lib.ListN.{length};
+ghost use Rattle.lists.specs.Functions.{from};
+ghost use Rattle.lists.specs.Parts.{words};
+ghost use Rattle.model.specs.Messages.{submit, reply, numberOf, recordLength, recordFrom, messageFrom, readNumber};
+ghost use Rattle.messages.specs.Meaning.{fieldsIn, fieldsOf};
+use crate::Message;
+use crate::bytes::read_number;
+use crate::bytes::read_record;
+use crate::bytes::wide;
+use crate::numbers::COMMIT;
+use crate::numbers::OUTCOME;
+use crate::numbers::REPLY;
+use crate::numbers::SUBMIT;
+
+fn read_submit(s: &[u8]) -> Message
+    requires { ⌜ 11 ≤ length (now s) ⌝ }
+    ensures { λ r. ⌜ (r .number ≡ 0) × (fieldsIn r ≡ fieldsOf (some (submit (words (now (s .entry)) 4) (words (now (s .entry)) 5) (words (now (s .entry)) 6) (numberOf (from (words (now (s .entry))) 7))))) ⌝ }
+{
+    let mut m = Message::refused(0);
+    m.kind = SUBMIT;
+    m.member = wide(s[4]);
+    m.slot = wide(s[5]);
+    m.operation = wide(s[6]);
+    m.count = read_number(s, 7);
+    m
+}
+
+fn read_reply(s: &[u8], n: usize) -> Message
+    requires { ⌜ (n ≤ 12) × (5 + recordLength n + recordLength n ≤ length (now s)) ⌝ }
+    ensures { λ r. ⌜ (r .number ≡ 0) × (fieldsIn r ≡ fieldsOf (some (reply (recordFrom n (from (words (now (s .entry))) 5)) (recordFrom n (from (words (now (s .entry))) (5 + recordLength n)))))) ⌝ }
+{
+    let newest = read_record(s, 5, n);
+    let stored = read_record(s, 44 + 4 * (n * n), n);
+    Message {
+        number: 0,
+        kind: REPLY,
+        member: 0,
+        slot: 0,
+        operation: 0,
+        count: 0,
+        outcome: 0,
+        newest,
+        stored,
+    }
+}
+
+pub fn read_message(s: &[u8], n: usize) -> Message
+    requires { ⌜ readNumber n (now s) ≡ 0 ⌝ }
+    ensures { λ r. ⌜ (r .number ≡ 0) × (fieldsIn r ≡ fieldsOf (some (messageFrom n (words (now (s .entry)))))) ⌝ }
+{
+    let kind = wide(s[3]);
+    if kind == SUBMIT {
+        return read_submit(s);
+    }
+    if kind == REPLY {
+        return read_reply(s, n);
+    }
+    let mut m = Message::refused(0);
+    if kind == COMMIT {
+        let newest = read_record(s, 5, n);
+        m.kind = COMMIT;
+        m.newest = newest;
+        return m;
+    }
+    m.kind = OUTCOME;
+    m.outcome = wide(s[4]);
+    m
+}
