@@ -2,7 +2,8 @@
 ghost use mathlib.Core.Path.{_≡_};
 ghost use Rattle.lists.specs.Parts.{words};
 ghost use Rattle.model.specs.Kinds.{concur};
-ghost use Rattle.model.specs.Records.{recordWithin};
+ghost use mathlib.Core.Bool.{false};
+ghost use Rattle.model.specs.Records.{zeroValue, recordWithin};
 ghost use Rattle.model.specs.RecordWords.{valueOf};
 ghost use Rattle.model.specs.Halves.{memberBeginNumber, memberBeginWords, replyNumber, replyWords, outcomeNumber, outcomeWords, outcomeReturns, memberCrashNumber, memberCrashWords};
 ghost use Rattle.records.specs.Meaning.{recordIn};
@@ -70,6 +71,7 @@ pub fn take_outcome(block: &mut [u32], n: u32, member: u32, result: u32) -> Outc
     ensures { λ r. ⌜ r .number ≡ outcomeNumber concur n member (now (block .entry)) result ⌝ }
     ensures { λ r. ⌜ returnedIn r ≡ outcomeReturns concur n member (now (block .entry)) result ⌝ }
     ensures { λ r. ⌜ now (block .exit) ≡ outcomeWords concur n member (now (block .entry)) result ⌝ }
+    ensures { λ r. ⌜ (r .returned ≡ false → valueOf (words (r .value)) ≡ zeroValue) ⌝ }
 {
     let number = outcome_number(block, n, member, result);
     if number != 0 {
