@@ -21,7 +21,8 @@ use Rattle.model.specs.Table.{tableSize, blockAt, phaseAt, memberOf, boardOf, t
 use Rattle.model.specs.TableCalls.{openNumber, openWords, boardIn, tableAnswer, tableAfter, tableReturns, phaseWords, tableSeen, tableRun}
 use Rattle.model.proofs.Demand3.{demand3}
 use Rattle.laws.proofs.Tables.{length-table, table-zero, member-at}
-use Rattle.runs.proofs.Sound.{SoundBoard, board-sound, done-sound, opened-sound}
+use Rattle.laws.proofs.Sound.{SoundBoard, board-sound}
+use Rattle.runs.proofs.Sound.{done-sound, opened-sound}
 use Rattle.runs.proofs.Held.{HeldBoard, CallHeld, board-read, done-held, opened-held}
 
 module _ (kind : Kind) (n : ℕ) (size : inside 12 n ≡ true) where

@@ -21,7 +21,8 @@ use Rattle.model.specs.TableCalls.{openNumber, openWords, boardIn, tableAfter, 
 use Rattle.runs.specs.Case.{Case, Claim, Question, left, answerTo, found, Holds, tableLeft, foundInWords, HoldsInWords, writes, reads, delivers, wholeWrite, wholeRead}
 use Rattle.runs.specs.Cases.{p1, p6, p7, p9, p11, refusals, seals, unsealed, alone, mended, contended, fromOpening}
 use Rattle.runs.proofs.Cases.{every-case}
-use Rattle.runs.proofs.Sound.{SoundBoard, opened-sound}
+use Rattle.laws.proofs.Sound.{SoundBoard}
+use Rattle.runs.proofs.Sound.{opened-sound}
 use Rattle.runs.proofs.Held.{HeldBoard, ValueHeld, CallHeld, opened-held}
 use Rattle.runs.proofs.Tables.{board-in, same-after, after-sound, after-held, same-run, open-size}
 
