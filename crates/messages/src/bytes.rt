@@ -76,14 +76,14 @@ fn read_matrix(s: &[u8], at: usize, n: usize) -> [Row; 12]
     matrix
 }
 
-// The record in the bytes from `at` on.
+// The record in the bytes from `at` on. The matrix is read first: its loop would part the loads of the others from their use.
 pub fn read_record(s: &[u8], at: usize, n: usize) -> Record
     requires { ⌜ (n ≤ 12) × (at + recordLength n ≤ length (now s)) ⌝ }
     ensures { λ r. ⌜ recordIn r ≡ recordFrom n (from (words (now (s .entry))) at) ⌝ }
 {
-    let count = read_number(s, at + COUNT_AT);
-    let value = read_value(s, at + VALUE_AT);
     let matrix = read_matrix(s, at + MATRIX_AT, n);
+    let value = read_value(s, at + VALUE_AT);
+    let count = read_number(s, at + COUNT_AT);
     Record {
         member: wide(s[at]),
         slot: wide(s[at + 1]),
