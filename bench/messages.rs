@@ -84,25 +84,30 @@ fn same(bytes: &[u8], n: u32) {
     }
 }
 
+// Keeps the compiler from leaving a call out.
+fn used(answer: u32) {
+    black_box(answer);
+}
+
 // A message is read once for so many writings.
 const WRITINGS: u32 = 1000;
 
 fn time(what: &str, bytes: &[u8], n: u32) {
     let name = |call: &str| format!("{} {}, n = {}", call, what, n);
     let check = compare(
-        || drop(black_box(our_check(black_box(bytes), black_box(n)))),
-        || drop(black_box(plain_check(black_box(bytes), black_box(n)))),
+        || used(our_check(black_box(bytes), black_box(n))),
+        || used(plain_check(black_box(bytes), black_box(n))),
     );
     check.print(&name("check"));
     let read = compare(
-        || drop(black_box(our_read(black_box(bytes), black_box(n)))),
-        || drop(black_box(plain_read(black_box(bytes), black_box(n)))),
+        || used(our_read(black_box(bytes), black_box(n))),
+        || used(plain_read(black_box(bytes), black_box(n))),
     );
     read.print(&name("read"));
     let (mut a, mut b) = (vec![0u8; 1235], vec![0u8; 1235]);
     let write = compare(
-        || drop(black_box(our_write(black_box(bytes), black_box(n), black_box(&mut a), WRITINGS - 1))),
-        || drop(black_box(plain_write(black_box(bytes), black_box(n), black_box(&mut b), WRITINGS - 1))),
+        || used(our_write(black_box(bytes), black_box(n), black_box(&mut a), WRITINGS - 1)),
+        || used(plain_write(black_box(bytes), black_box(n), black_box(&mut b), WRITINGS - 1)),
     );
     write.each_of(WRITINGS).print(&name("write"));
 }
