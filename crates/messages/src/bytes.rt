@@ -61,7 +61,7 @@ fn count_at(s: &[u8], at: usize, n: usize, i: usize) -> u32
     0
 }
 
-// All twelve counts are named, so that the compiler keeps the row in registers until it is in its place; a loop would part with it twice.
+// All twelve counts are named: a row that a loop fills in memory is copied twice on its way into the matrix.
 fn read_row(s: &[u8], at: usize, n: usize) -> Row
     requires { ⌜ (n ≤ 12) × (at + n * 4 ≤ length (now s)) ⌝ }
     ensures { λ r. ⌜ rowIn r ≡ rowOf n (numberIn (from (words (now (s .entry))) at)) ⌝ }
