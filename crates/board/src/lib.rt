@@ -65,9 +65,9 @@ pub fn deliver(table: &mut [u32], member: u32) -> Outcome
     ensures { λ _. ⌜ now (table .exit) ≡ tableAfter concur (now (table .entry)) (deliverCall member) ⌝ }
     ensures { λ _. ⌜ boardIn (now (table .exit)) ≡ tableBoard concur (now (table .entry)) (deliverCall member) ⌝ }
 {
-    let number = table_number(table);
-    if number != 0 {
-        return nothing(number);
+    let checked = table_number(table);
+    if checked != 0 {
+        return nothing(checked);
     }
     let n = table[0];
     deliver_on(table, n, member)
@@ -79,9 +79,9 @@ pub fn crash(table: &mut [u32], member: u32) -> u32
     ensures { λ _. ⌜ now (table .exit) ≡ tableAfter concur (now (table .entry)) (crashCall member) ⌝ }
     ensures { λ _. ⌜ boardIn (now (table .exit)) ≡ tableBoard concur (now (table .entry)) (crashCall member) ⌝ }
 {
-    let number = table_number(table);
-    if number != 0 {
-        return number;
+    let refused = table_number(table);
+    if refused != 0 {
+        return refused;
     }
     let n = table[0];
     crash_on(table, n, member)

@@ -10,7 +10,7 @@ use lib.Dec.{eqb}
 use borrow.Author.Tests.{eqb-true, eqb-false, eq-eqb, ne-eqb}
 use Rattle.lists.specs.Functions.{put, pasted, from, inside, within, numbered}
 use Rattle.lists.specs.Parts.{words, tabulate}
-use Rattle.lists.proofs.Functions.{on, apart, put-at, put-off, put-same, put-all, inside-in, inside-low, inside-high, within-at, within-off, within-same, within-blank, numbered-within, numbered-off}
+use Rattle.lists.proofs.Functions.{on, apart, put-at, put-off, put-same, put-all, inside-in, inside-low, inside-high, within-at, within-off, within-same, within-blank, numbered-within, numbered-off, numbered-at, numbered-same}
 use Rattle.lists.proofs.Parts.{tabulate-at}
 use Rattle.model.specs.Rows.{Row, Matrix, zeroRow, zeroMatrix, larger}
 use Rattle.model.specs.Records.{Value, Rec, write, zeroValue, opening, zeroRecord, matrixWithin, recordWithin}
@@ -311,6 +311,11 @@ outcome-held : {n : ℕ} {m : Member} (won : Bool) → HeldMember n m → inside
 unfolding outcome
 outcome-held true h p = completed-held h p
 outcome-held false h p = dropped-held h
+
+-- the value of every call that the code makes: the contracts of begin have it so
+pub given-held : (w : ℕ → ℕ) → ValueHeld (valueOf w)
+unfolding valueOf
+given-held w = numbered-same 8 0 (λ i. numbered 8 0 w (i + 1)) w (numbered-at 8 0 w)
 
 -- a call whose value has 8 words
 abbrev pub CallHeld : Call → Type 0
