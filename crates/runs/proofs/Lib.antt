@@ -2,3 +2,4 @@ pub mod Cases
 pub mod Sound
 pub mod Held
 pub mod Tables
+pub mod Scripts
