@@ -1,0 +1,1 @@
+// The board program's lines, run on a table.
