@@ -8,6 +8,7 @@ use lib.ListN.{length, take, drop, length-take, length-drop}
 use Rattle.lists.specs.Functions.{put}
 use Rattle.lists.specs.Parts.{words, replaced}
 use Rattle.lists.specs.Pieces.{place}
+use Rattle.lists.proofs.Parts.{length-replaced}
 use Rattle.lists.proofs.Pieces.{put-back, place-room, pieces-at}
 use Rattle.model.specs.Records.{zeroRecord}
 use Rattle.model.specs.Board.{noEntry}
@@ -70,6 +71,12 @@ module _ {n r at size : ℕ} {l : List ℕ} (h : Lent n r l at size) where
 
     shape : back ≡ replaced l (place (entrySize n) r) p
     shape = put-back l at (at + size - at) p (long ∙ sym all) ∙ ap (λ a. replaced l a p) (h .begins)
+
+    pub length-back : length back ≡ hostSize n
+    unfolding hostSize
+    length-back =
+        rw shape (length-replaced l (place (entrySize n) r) p (rw (long, h .slot .long) (place-room (entrySize n) n r low high)))
+        ∙ h .slot .long
 
     pub host-changed : hostOf n (words back) ≡ put (hostOf n (words l)) r (entryOf n (words p))
     host-changed = rw shape (host-entry-put n r l p low high (h .slot .long) long)

@@ -1,3 +1,4 @@
 pub mod EntryWords
 pub mod Lent
+pub mod Slots
 pub mod Answers

@@ -3,7 +3,8 @@ ghost use mathlib.Core.Path.{_≡_};
 ghost use mathlib.Core.Bool.{cond};
 ghost use Rattle.lists.specs.Parts.{words};
 ghost use Rattle.model.specs.Kinds.{concur, becomesStored};
-ghost use Rattle.model.specs.Records.{recordWithin};
+ghost use Rattle.model.specs.Records.{recordWithin, opening};
+ghost use Rattle.model.specs.Board.{openingEntry};
 ghost use Rattle.model.specs.Host.{submitted, wins, entryAfter, storedAfter};
 ghost use Rattle.model.specs.Table.{entryOf, storedOf, soundEntry};
 ghost use Rattle.records.specs.Meaning.{recordIn};
@@ -54,6 +55,15 @@ fn accept(entry: &mut [u32], n: usize, committed: Record)
     if committed.operation == WRITE {
         copy_down(entry, STORED_AT, at, record_size(n));
     }
+}
+
+// The entry of a slot at first: as if its opening record, which is a write, had just been accepted.
+pub fn open_entry(entry: &mut [u32], n: usize, slot: u32)
+    requires { ⌜ OneEntry n (now entry) ⌝ }
+    ensures { λ _. ⌜ entryOf n (words (now (entry .exit))) ≡ openingEntry slot ⌝ }
+    ensures { λ _. ⌜ storedOf n (words (now (entry .exit))) ≡ opening slot ⌝ }
+{
+    accept(entry, n, Record::opening(slot));
 }
 
 // The entry after a commit, and whether it was accepted.

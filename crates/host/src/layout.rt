@@ -1,7 +1,7 @@
 // Where the parts of a host entry lie: document 01's layout, in one place.
 ghost use mathlib.Core.Path.{_≡_};
 ghost use Prim.Native.Nat.{_≤_};
-ghost use Rattle.model.specs.Table.{entrySize, hostSize, newestAt};
+ghost use Rattle.model.specs.Table.{entrySize, newestAt};
 ghost use Rattle.host.specs.Needs.{EntryPlace};
 use records::steps::record_size;
 
@@ -23,14 +23,6 @@ pub fn entry_size(n: usize) -> usize
     ensures { λ r. ⌜ r ≡ entrySize n ⌝ }
 {
     newest_at(n) + record_size(n)
-}
-
-// How many words the n entries have.
-pub fn host_size(n: usize) -> usize
-    requires { ⌜ n ≤ 12 ⌝ }
-    ensures { λ r. ⌜ r ≡ hostSize n ⌝ }
-{
-    n * entry_size(n)
 }
 
 // Where the slot's entry begins in the run of entries.

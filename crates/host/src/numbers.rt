@@ -7,7 +7,7 @@ ghost use Rattle.model.specs.Kinds.{concur};
 ghost use Rattle.model.specs.Table.{hostOf, storedRecordsOf, entriesNumber};
 ghost use Rattle.model.specs.Halves.{hostNumber};
 ghost use Rattle.host.specs.Needs.{fieldsNumber};
-use crate::layout::host_size;
+use crate::steps::host_size;
 use crate::steps::sound_entries;
 use records::is_barred;
 use records::is_numbered;

@@ -1,20 +1,47 @@
 // The host's steps without their tests, in place on the n host entries, and the check of the entries.
 ghost use mathlib.Core.Path.{_≡_};
+ghost use Prim.Native.Nat.{_≤_};
 ghost use Rattle.lists.specs.Functions.{put};
 ghost use Rattle.lists.specs.Parts.{words};
 ghost use Rattle.model.specs.Kinds.{concur};
 ghost use Rattle.model.specs.Records.{recordWithin};
 ghost use Rattle.model.specs.Host.{submitted, wins, entryAfter, storedAfter};
-ghost use Rattle.model.specs.Table.{hostOf, storedRecordsOf, soundHost};
+ghost use Rattle.model.specs.Board.{opened};
+ghost use Rattle.model.specs.Table.{hostSize, hostOf, storedRecordsOf, soundHost};
 ghost use Rattle.records.specs.Meaning.{recordIn};
 ghost use Rattle.host.specs.Needs.{Entries, Slot};
 use crate::Reply;
 use crate::entry::commit_entry;
+use crate::entry::open_entry;
 use crate::entry::sound_entry;
 use crate::entry::submit_entry;
 use crate::layout::entry_place;
 use crate::layout::entry_size;
 use records::Record;
+
+// How many words the n entries have.
+pub fn host_size(n: usize) -> usize
+    requires { ⌜ n ≤ 12 ⌝ }
+    ensures { λ r. ⌜ r ≡ hostSize n ⌝ }
+{
+    n * entry_size(n)
+}
+
+// The entries as they are at first: no submit, and each slot's opening record both stored and newest.
+pub fn open(entries: &mut [u32], n: u32)
+    requires { ⌜ Entries n (now entries) ⌝ }
+    ensures { λ _. ⌜ hostOf n (words (now (entries .exit))) ≡ opened n .host ⌝ }
+    ensures { λ _. ⌜ storedRecordsOf n (words (now (entries .exit))) ≡ opened n .stored ⌝ }
+{
+    let size = entry_size(n as usize);
+    let mut done = 0;
+    while done < n {
+        let at = entry_place(n as usize, done as usize + 1);
+        let end = at + size;
+        open_entry(&mut entries[at..end], n as usize, done + 1);
+        done += 1;
+    }
+}
 
 // A submit of member with its count, noted as the slot's newest; the reply is the slot's newest and stored records.
 pub fn submit(entries: &mut [u32], n: usize, member: u32, slot: u32, count: u32) -> Reply

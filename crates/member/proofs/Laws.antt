@@ -13,8 +13,9 @@ use Rattle.lists.proofs.Functions.{apart, put-at, put-off, from-from, from-past
 use Rattle.model.specs.Records.{Rec, read, write, matrixWithin, recordWithin}
 use Rattle.model.specs.RecordWords.{valueAt, matrixAt, recordSize, rowOf, matrixOf, valueOf, recordOf}
 use Rattle.model.specs.Member.{Member, haltNumber, joined, ownRecord, passed, failed, replied, completed, dropped, tookOver, returnedBy}
+use Rattle.model.specs.Board.{sentRecord}
 use Rattle.model.specs.Table.{phaseAt, crashedAt, haltAt, slotAt, operationAt, ownAt, acceptedAt, lastAt, pendingAt, knownAt, firstAt, secondAt, blockSize, memberOf}
-use Rattle.laws.proofs.Records.{matrixOf-same, valueOf-same}
+use Rattle.laws.proofs.Records.{matrixOf-same, valueOf-same, recordOf-parts}
 use Rattle.laws.proofs.Replies.{matrix-all, value-all, joined-within, haltNumber-within}
 use Rattle.laws.proofs.Steps.{Holds, holds-set, holds-copied, count-of, kept}
 use Rattle.rows.specs.declared.Row.{Row}
@@ -89,6 +90,21 @@ module _ {n i : ℕ} {l : List ℕ} (running : Running n l) (member : Within n i
       ≡ passed n i (memberOf n (words l)) (recordWithin n newest) (recordWithin n stored)
   unfolding replied
   replied-passed h = rw (← halted, eq-eqb number 0 h)
+
+-- The record that a commit sends, as the code builds it.
+pub sent-built : (n i : ℕ) (w : ℕ → ℕ) (value : List ℕ) (matrix : List Row) → Within n (w slotAt)
+    → valueOf (words value) ≡ valueOf (from w (firstAt n + valueAt)) → matrixIn matrix ≡ matrixOf n (from w (firstAt n + matrixAt))
+    → recordIn (record { member = i; slot = w slotAt; operation = w operationAt; count = w (ownAt + w slotAt - 1); value = value; matrix = matrix })
+    ≡ sentRecord i (memberOf n w)
+unfolding recordIn sentRecord memberOf
+sent-built n i w value matrix b e f = λ t. record {
+  member = i;
+  slot = w slotAt;
+  operation = w operationAt;
+  count = sym (count-of n w ownAt (w slotAt) (b .least) (b .most)) t;
+  value = (e ∙ sym (ap (λ r. r .value) (recordOf-parts n w (firstAt n)))) t;
+  matrix = (f ∙ sym (ap (λ r. r .matrix) (recordOf-parts n w (firstAt n)))) t;
+}
 
 -- What taking an outcome hands back.
 

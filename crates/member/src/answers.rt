@@ -1,7 +1,7 @@
-// The numbers from 4 on that answer a begin and a crash, by the member's numbers and the arguments: the board's answers, too.
+// The numbers from 4 on that answer a begin, a deliver and a crash, by the member's numbers and the arguments: the board's answers, too.
 ghost use mathlib.Core.Path.{_≡_};
 ghost use Rattle.model.specs.Kinds.{concur};
-ghost use Rattle.model.specs.Numbers.{beginAnswer, crashAnswer};
+ghost use Rattle.model.specs.Numbers.{beginAnswer, deliverAnswer, crashAnswer};
 use records::is_barred;
 use records::is_numbered;
 use records::is_operation;
@@ -40,6 +40,33 @@ pub fn begin_answer(
     }
     if LIMIT <= count {
         return 9;
+    }
+    0
+}
+
+pub fn deliver_answer(n: u32, phase: u32, crashed: u32, member: u32) -> u32
+    ensures { λ r. ⌜ r ≡ deliverAnswer n phase crashed member ⌝ }
+{
+    if !is_numbered(member, n) {
+        return 4;
+    }
+    if phase == 0 {
+        return 10;
+    }
+    if phase == 6 {
+        return 10;
+    }
+    if crashed == 0 {
+        return 0;
+    }
+    if phase == 2 {
+        return 10;
+    }
+    if phase == 4 {
+        return 10;
+    }
+    if phase == 5 {
+        return 10;
     }
     0
 }

@@ -10,10 +10,11 @@ ghost use Rattle.records.specs.Meaning.{recordIn};
 ghost use Rattle.member.specs.Results.{returnedIn};
 
 pub mod answers;
-pub mod blocks;
 mod checks;
 mod layout;
+mod marks;
 mod numbers;
+mod parts;
 pub mod steps;
 
 use numbers::begin_number;

@@ -7,13 +7,12 @@ ghost use Rattle.model.specs.Records.{recordWithin};
 ghost use Rattle.model.specs.Table.{memberOf};
 ghost use Rattle.model.specs.Halves.{orElse, notWaiting, memberNumber, memberBeginNumber, replyNumber, outcomeNumber, memberCrashNumber};
 ghost use Rattle.records.specs.Meaning.{recordIn};
-use crate::answers::begin_answer;
-use crate::answers::crash_answer;
-use crate::blocks::own_count;
-use crate::blocks::sound_block;
 use crate::layout::CRASHED_AT;
 use crate::layout::PHASE_AT;
 use crate::layout::layout;
+use crate::steps::begin_refusal;
+use crate::steps::crash_refusal;
+use crate::steps::sound_block;
 use records::Record;
 use records::is_numbered;
 
@@ -45,16 +44,7 @@ pub fn begin_number(block: &[u32], n: u32, member: u32, slot: u32, operation: u3
     if number != 0 {
         return number;
     }
-    let count = own_count(block, n, slot);
-    begin_answer(
-        n,
-        block[PHASE_AT],
-        block[CRASHED_AT],
-        count,
-        member,
-        slot,
-        operation,
-    )
+    begin_refusal(block, n, member, slot, operation)
 }
 
 // 1 to 4, and 10: the member is in another phase than the message needs, or has crashed.
@@ -120,5 +110,5 @@ pub fn crash_number(block: &[u32], n: u32, member: u32) -> u32
     if number != 0 {
         return number;
     }
-    crash_answer(n, block[PHASE_AT], block[CRASHED_AT], member)
+    crash_refusal(block, n, member)
 }

@@ -1,21 +1,22 @@
 // The member's steps without their tests, in place on its block: what the public calls and the board do once nothing refuses.
 ghost use mathlib.Core.Path.{_≡_};
-ghost use mathlib.Core.Bool.{cond};
 ghost use Prim.Native.Nat.{_+_, _<_, _≤_, _^_};
-ghost use lib.Dec.{eqb};
-ghost use lib.ListN.{length};
-ghost use Rattle.lists.specs.Functions.{from};
 ghost use Rattle.lists.specs.Parts.{words};
-ghost use Rattle.model.specs.Records.{write, recordWithin};
+ghost use Rattle.model.specs.Records.{recordWithin};
 ghost use Rattle.model.specs.RecordWords.{valueOf};
-ghost use Rattle.model.specs.Member.{moved, begun, answered, passed, failed, replied, judged, dropped, outcome, returnedBy, crashedOf, tookOver};
-ghost use Rattle.model.specs.Table.{memberOf};
+ghost use Rattle.model.specs.Member.{begun, answered, replied, judged, outcome, returnedBy, crashedOf};
+ghost use Rattle.model.specs.Kinds.{concur};
+ghost use Rattle.model.specs.Numbers.{beginAnswer, deliverAnswer, crashAnswer};
+ghost use Rattle.model.specs.Board.{sentRecord};
+ghost use Rattle.model.specs.Table.{blockSize, memberOf, soundMember};
 ghost use Rattle.records.specs.Meaning.{recordIn};
 ghost use Rattle.member.specs.Needs.{Block, Within, Running};
 ghost use Rattle.member.specs.Results.{Taken};
 use crate::Outcome;
+use crate::answers::begin_answer;
+use crate::answers::crash_answer;
+use crate::answers::deliver_answer;
 use crate::checks::halt_number;
-use crate::checks::joined_matrix;
 use crate::layout::CRASHED_AT;
 use crate::layout::HALT_AT;
 use crate::layout::OPERATION_AT;
@@ -23,29 +24,145 @@ use crate::layout::OWN_AT;
 use crate::layout::PHASE_AT;
 use crate::layout::SLOT_AT;
 use crate::layout::layout;
+use crate::marks::sound_marks;
+use crate::marks::sound_operation;
+use crate::parts::carried;
+use crate::parts::drop;
+use crate::parts::fail;
+use crate::parts::note;
+use crate::parts::pass;
+use crate::parts::take_over;
 use records::READ;
 use records::Record;
-use records::WRITE;
+use records::is_numbered;
 use records::steps::MATRIX_AT;
 use records::steps::VALUE_AT;
-use records::steps::clear;
-use records::steps::copy_down;
 use records::steps::load_matrix;
 use records::steps::load_record;
 use records::steps::load_value;
-use records::steps::record_size;
-use records::steps::store_record;
+use records::steps::sound_record;
 use records::steps::store_value;
 
-// The value that an operation carries: the given one for a write, the last accepted own one, which lies at `last`, for a read.
-fn carried(block: &[u32], last: usize, operation: u32, value: [u32; 8]) -> [u32; 8]
-    requires { ⌜ last + 8 ≤ length (now block) ⌝ }
-    ensures { λ r. ⌜ valueOf (words r) ≡ cond (eqb operation write) (valueOf (words value)) (valueOf (from (words (now (block .entry))) last)) ⌝ }
+// A submit: the operation's slot and own count.
+pub struct Submit {
+    pub slot: u32,
+    pub count: u32,
+}
+
+// How many words a block has.
+pub fn block_size(n: usize) -> usize
+    requires { ⌜ n ≤ 12 ⌝ }
+    ensures { λ r. ⌜ r ≡ blockSize n ⌝ }
 {
-    if operation == WRITE {
-        return value;
+    let at = layout(n);
+    at.size
+}
+
+// The block of a member, by its numbers and its two message records.
+pub fn sound_block(block: &[u32], n: u32, member: u32) -> bool
+    requires { ⌜ Block n (now block) ⌝ }
+    ensures { λ r. ⌜ r ≡ soundMember concur n member (memberOf n (words (now (block .entry)))) ⌝ }
+{
+    let at = layout(n as usize);
+    let phase = block[PHASE_AT];
+    let slot = block[SLOT_AT];
+    let operation = block[OPERATION_AT];
+    if !sound_marks(phase, block[CRASHED_AT], block[HALT_AT]) {
+        return false;
     }
-    load_value(block, last)
+    if n < slot {
+        return false;
+    }
+    if 2 < operation {
+        return false;
+    }
+    if !sound_operation(member, phase, slot, operation) {
+        return false;
+    }
+    if !sound_record(block, at.first, n) {
+        return false;
+    }
+    sound_record(block, at.second, n)
+}
+
+// The own count of a slot; there is none, 0, outside 1 to n.
+pub fn own_count(block: &[u32], n: u32, slot: u32) -> u32
+    requires { ⌜ Block n (now block) ⌝ }
+    ensures { λ r. ⌜ r ≡ memberOf n (words (now (block .entry))) .own slot ⌝ }
+{
+    if !is_numbered(slot, n) {
+        return 0;
+    }
+    let at = OWN_AT + (slot as usize) - 1;
+    block[at]
+}
+
+// The member's phase.
+pub fn phase_of(block: &[u32], n: usize) -> u32
+    requires { ⌜ Block n (now block) ⌝ }
+    ensures { λ r. ⌜ r ≡ memberOf n (words (now (block .entry))) .phase ⌝ }
+{
+    block[PHASE_AT]
+}
+
+// The numbers from 4 on of a begin, a deliver and a crash.
+pub fn begin_refusal(block: &[u32], n: u32, member: u32, slot: u32, operation: u32) -> u32
+    requires { ⌜ Block n (now block) ⌝ }
+    ensures { λ r. ⌜ r ≡ beginAnswer concur n (memberOf n (words (now (block .entry))) .phase) (memberOf n (words (now (block .entry))) .crashed) (memberOf n (words (now (block .entry))) .own slot) member slot operation ⌝ }
+{
+    let count = own_count(block, n, slot);
+    begin_answer(
+        n,
+        block[PHASE_AT],
+        block[CRASHED_AT],
+        count,
+        member,
+        slot,
+        operation,
+    )
+}
+
+pub fn deliver_refusal(block: &[u32], n: u32, member: u32) -> u32
+    requires { ⌜ Block n (now block) ⌝ }
+    ensures { λ r. ⌜ r ≡ deliverAnswer n (memberOf n (words (now (block .entry))) .phase) (memberOf n (words (now (block .entry))) .crashed) member ⌝ }
+{
+    deliver_answer(n, block[PHASE_AT], block[CRASHED_AT], member)
+}
+
+pub fn crash_refusal(block: &[u32], n: u32, member: u32) -> u32
+    requires { ⌜ Block n (now block) ⌝ }
+    ensures { λ r. ⌜ r ≡ crashAnswer n (memberOf n (words (now (block .entry))) .phase) (memberOf n (words (now (block .entry))) .crashed) member ⌝ }
+{
+    crash_answer(n, block[PHASE_AT], block[CRASHED_AT], member)
+}
+
+// The submit of a running operation: its slot and count.
+pub fn submit_of(block: &[u32], n: usize) -> Submit
+    requires { ⌜ Running n (now block) ⌝ }
+    ensures { λ r. ⌜ (r .slot ≡ memberOf n (words (now (block .entry))) .slot) × (r .count ≡ memberOf n (words (now (block .entry))) .own (memberOf n (words (now (block .entry))) .slot)) ⌝ }
+{
+    let slot = block[SLOT_AT];
+    let count = block[OWN_AT + (slot as usize) - 1];
+    Submit { slot, count }
+}
+
+// The record that a commit sends: the first message record's value and matrix under the block's own slot, type and count.
+pub fn commit_of(block: &[u32], n: usize, member: u32) -> Record
+    requires { ⌜ Running n (now block) ⌝ }
+    ensures { λ r. ⌜ recordIn r ≡ sentRecord member (memberOf n (words (now (block .entry)))) ⌝ }
+{
+    let at = layout(n);
+    let slot = block[SLOT_AT];
+    let value = load_value(block, at.first + VALUE_AT);
+    let matrix = load_matrix(block, at.first + MATRIX_AT, n);
+    Record {
+        member,
+        slot,
+        operation: block[OPERATION_AT],
+        count: block[OWN_AT + (slot as usize) - 1],
+        value,
+        matrix,
+    }
 }
 
 // The start of an operation.
@@ -63,58 +180,12 @@ pub fn begin(block: &mut [u32], n: usize, slot: u32, operation: u32, value: [u32
     block[OPERATION_AT] = operation;
 }
 
-// Both message records and the phase written.
-fn note(block: &mut [u32], n: usize, phase: u32, first: Record, second: Record)
-    requires { ⌜ Block n (now block) ⌝ }
-    ensures { λ _. ⌜ memberOf n (words (now (block .exit))) ≡ moved (memberOf n (words (now (block .entry)))) phase (memberOf n (words (now (block .entry))) .halt) (recordWithin n (recordIn first)) (recordWithin n (recordIn second)) ⌝ }
-{
-    let at = layout(n);
-    store_record(block, at.first, n, first);
-    store_record(block, at.second, n, second);
-    block[PHASE_AT] = phase;
-}
-
 // The host's reply, noted: phase 2.
 pub fn answer(block: &mut [u32], n: usize, newest: Record, stored: Record)
     requires { ⌜ Block n (now block) ⌝ }
     ensures { λ _. ⌜ memberOf n (words (now (block .exit))) ≡ answered (memberOf n (words (now (block .entry)))) (recordWithin n (recordIn newest)) (recordWithin n (recordIn stored)) ⌝ }
 {
     note(block, n, 2, newest, stored);
-}
-
-// A reply that failed a check.
-fn fail(block: &mut [u32], n: usize, number: u32)
-    requires { ⌜ Block n (now block) ⌝ }
-    ensures { λ _. ⌜ memberOf n (words (now (block .exit))) ≡ failed (memberOf n (words (now (block .entry)))) number ⌝ }
-{
-    let at = layout(n);
-    let messages = 2 * record_size(n);
-    clear(block, at.first, messages);
-    block[PHASE_AT] = 6;
-    block[HALT_AT] = number;
-}
-
-// A reply that passed: the member's own record, phase 3.
-fn pass(block: &mut [u32], n: usize, member: u32, newest: Record, stored: Record)
-    requires { ⌜ (Running n (now block)) × (Within n member) ⌝ }
-    ensures { λ _. ⌜ memberOf n (words (now (block .exit))) ≡ passed n member (memberOf n (words (now (block .entry)))) (recordWithin n (recordIn newest)) (recordWithin n (recordIn stored)) ⌝ }
-{
-    let at = layout(n);
-    let slot = block[SLOT_AT];
-    let count = block[OWN_AT + (slot as usize) - 1];
-    let known = load_matrix(block, at.known, n);
-    let latest = newest.matrix;
-    let value = load_value(block, at.pending);
-    let matrix = joined_matrix(known, latest, n, member as usize, slot as usize, count);
-    let own = Record {
-        member,
-        slot,
-        operation: block[OPERATION_AT],
-        count,
-        value,
-        matrix,
-    };
-    note(block, n, 3, own, stored);
 }
 
 // A reply taken: the checks, and what follows from them.
@@ -151,35 +222,6 @@ pub fn judge(block: &mut [u32], n: usize, won: bool)
         return;
     }
     block[PHASE_AT] = 5;
-}
-
-// The end of an operation of which nothing is taken over.
-fn drop(block: &mut [u32], n: usize)
-    requires { ⌜ Block n (now block) ⌝ }
-    ensures { λ _. ⌜ memberOf n (words (now (block .exit))) ≡ dropped (memberOf n (words (now (block .entry)))) ⌝ }
-{
-    let at = layout(n);
-    clear(block, at.pending, 8);
-    clear(block, at.first, 2 * record_size(n));
-    block[PHASE_AT] = 0;
-    block[SLOT_AT] = 0;
-    block[OPERATION_AT] = 0;
-}
-
-// What an accepted operation leaves the member: its matrix, its count and, for a write, its value.
-fn take_over(block: &mut [u32], n: usize)
-    requires { ⌜ Running n (now block) ⌝ }
-    ensures { λ _. ⌜ memberOf n (words (now (block .exit))) ≡ tookOver (memberOf n (words (now (block .entry)))) ⌝ }
-{
-    let at = layout(n);
-    let slot = block[SLOT_AT] as usize;
-    let operation = block[OPERATION_AT];
-    block[at.accepted + slot - 1] = block[OWN_AT + slot - 1];
-    copy_down(block, at.known, at.first + MATRIX_AT, n * n);
-    if operation != WRITE {
-        return;
-    }
-    copy_down(block, at.last, at.pending, 8);
 }
 
 // The outcome taken, and the value that an accepted read returns.

@@ -9,11 +9,11 @@ use borrow.Author.Tests.{ne-eqb, eqb-true, eqb-false}
 use native.Mathlib.Omega.{arith}
 use lib.ListN.{length, getD, set, drop, length-append, length-set, List·getD-append}
 use lib.Seq.{getD-append-add}
-use Rattle.lists.specs.Functions.{from, pasted, inside}
-use Rattle.lists.specs.Parts.{words}
-use Rattle.lists.proofs.Functions.{on, apart, inside-in, inside-low, inside-high, pasted-one, pasted-join, pasted-same}
+use Rattle.lists.specs.Functions.{from, pasted, numbered, inside}
+use Rattle.lists.specs.Parts.{words, tabulate}
+use Rattle.lists.proofs.Functions.{on, apart, inside-in, inside-low, inside-high, pasted-one, pasted-join, pasted-same, numbered-same, numbered-padded}
 use Rattle.lists.proofs.Parts.{words-set, words-more, tabulate-at, replaced-by}
-use Rattle.model.specs.RecordWords.{matrixWord, recordWords}
+use Rattle.model.specs.RecordWords.{rowOf, matrixWord, recordWords}
 use Rattle.model.specs.Records.{Rec}
 use Rattle.model.specs.Messages.{
   Message,
@@ -38,7 +38,7 @@ use Rattle.model.specs.Messages.{
 use Rattle.laws.proofs.Records.{row-next, matrixWord-at, head-words, value-words, matrix-words, valueOf-at}
 use Rattle.laws.proofs.Messages.{byteIn-at, byteIn-from, byteIn-same, byte-first, byte-further, length-recordBytes, length-encode, heading, reply-parts, commit-parts, writable-of}
 use Rattle.rows.specs.declared.Row.{Row}
-use Rattle.rows.specs.Meaning.{matrixIn, noRow}
+use Rattle.rows.specs.Meaning.{rowIn, matrixIn, noRow}
 use Rattle.rows.proofs.Laws.{count-at, row-at}
 use Rattle.records.specs.declared.Record.{Record}
 use Rattle.records.specs.Meaning.{recordIn}
@@ -72,6 +72,14 @@ stored l a x p fits =
     (words-set l a x (omega arith) ∙ pasted-one a (words (x ∷ p)) (words l))
     (λ k h. ap (words (x ∷ p)) (let s : suc k ≡ 1 + k = omega arith in s))
     ∙ ap (λ k. pasted a k (words (x ∷ p)) (words l)) (let s : 1 + length p ≡ suc (length p) = omega arith in s)
+
+-- a row whose twelve counts are named one by one
+pub row-named : (r : Row) (n : ℕ) (g : ℕ → ℕ) → n ≤ 12 → r .counts ≡ tabulate 12 (pasted 0 n g (λ k. 0)) → rowIn r ≡ rowOf n g
+unfolding rowIn rowOf
+row-named r n g h e =
+    ap (λ l. numbered 12 0 (words l)) e
+    ∙ numbered-same 12 0 (words (tabulate 12 (pasted 0 n g (λ k. 0)))) (pasted 0 n g (λ k. 0)) (tabulate-at 12 (pasted 0 n g (λ k. 0)))
+    ∙ numbered-padded 12 n 0 g h
 
 -- one row more of a matrix written
 pub row-written : (m : List Row) (n j a : ℕ) (w : ℕ → ℕ) → n ≤ 12 → j < n

@@ -50,17 +50,37 @@ fn read_value(s: &[u8], at: usize) -> [u32; 8]
     value
 }
 
+// Number i of the n from `at` on, and 0 past them.
+fn count_at(s: &[u8], at: usize, n: usize, i: usize) -> u32
+    requires { ⌜ (n ≤ 12) × (at + n * 4 ≤ length (now s)) ⌝ }
+    ensures { λ r. ⌜ r ≡ pasted 0 n (numberIn (from (words (now (s .entry))) at)) (λ k. 0) i ⌝ }
+{
+    if i < n {
+        return read_number(s, at + i * 4);
+    }
+    0
+}
+
+// All twelve counts are named: a row that a loop fills in memory is copied twice on its way into the matrix.
 fn read_row(s: &[u8], at: usize, n: usize) -> Row
     requires { ⌜ (n ≤ 12) × (at + n * 4 ≤ length (now s)) ⌝ }
     ensures { λ r. ⌜ rowIn r ≡ rowOf n (numberIn (from (words (now (s .entry))) at)) ⌝ }
 {
-    let mut row = Row::ZERO;
-    let mut i = 0;
-    while i < n {
-        row.counts[i] = read_number(s, at + i * 4);
-        i += 1;
-    }
-    row
+    let counts = [
+        count_at(s, at, n, 0),
+        count_at(s, at, n, 1),
+        count_at(s, at, n, 2),
+        count_at(s, at, n, 3),
+        count_at(s, at, n, 4),
+        count_at(s, at, n, 5),
+        count_at(s, at, n, 6),
+        count_at(s, at, n, 7),
+        count_at(s, at, n, 8),
+        count_at(s, at, n, 9),
+        count_at(s, at, n, 10),
+        count_at(s, at, n, 11),
+    ];
+    Row { counts }
 }
 
 fn read_matrix(s: &[u8], at: usize, n: usize) -> [Row; 12]
@@ -76,14 +96,14 @@ fn read_matrix(s: &[u8], at: usize, n: usize) -> [Row; 12]
     matrix
 }
 
-// The record in the bytes from `at` on.
+// The record in the bytes from `at` on. The matrix is read first: its loop would part the loads of the others from their use.
 pub fn read_record(s: &[u8], at: usize, n: usize) -> Record
     requires { ⌜ (n ≤ 12) × (at + recordLength n ≤ length (now s)) ⌝ }
     ensures { λ r. ⌜ recordIn r ≡ recordFrom n (from (words (now (s .entry))) at) ⌝ }
 {
-    let count = read_number(s, at + COUNT_AT);
-    let value = read_value(s, at + VALUE_AT);
     let matrix = read_matrix(s, at + MATRIX_AT, n);
+    let value = read_value(s, at + VALUE_AT);
+    let count = read_number(s, at + COUNT_AT);
     Record {
         member: wide(s[at]),
         slot: wide(s[at + 1]),

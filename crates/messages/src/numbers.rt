@@ -23,7 +23,8 @@ pub const COMMIT: u32 = 3;
 pub const OUTCOME: u32 = 4;
 
 // The length of what follows the two length bytes: twelve numbers for each kind, for n from 1 to 12.
-const LENGTHS: [usize; 48] = [
+// The narrow type matters: the compiler lays the table out anew in each call.
+const LENGTHS: [u16; 48] = [
     9,
     9,
     9,
@@ -74,12 +75,18 @@ const LENGTHS: [usize; 48] = [
     3,
 ];
 
+fn wide_length(x: u16) -> usize
+    ensures { λ r. ⌜ r ≡ x ⌝ }
+{
+    x as usize
+}
+
 pub fn length_of(kind: u32, n: u32) -> usize
     requires { ⌜ (1 ≤ kind) × ((kind ≤ 4) × ((1 ≤ n) × (n ≤ 12))) ⌝ }
     ensures { λ r. ⌜ r ≡ lengthOf kind n ⌝ }
 {
     let at = (kind - 1) * 12 + (n - 1);
-    LENGTHS[at as usize]
+    wide_length(LENGTHS[at as usize])
 }
 
 // Are the three bytes from `at` on a member, a slot and a type?

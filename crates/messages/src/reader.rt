@@ -5,7 +5,7 @@ ghost use Prim.Native.Nat.{_+_, _≤_};
 ghost use lib.ListN.{length};
 ghost use Rattle.lists.specs.Functions.{from};
 ghost use Rattle.lists.specs.Parts.{words};
-ghost use Rattle.model.specs.Messages.{submit, reply, numberOf, recordLength, recordFrom, messageFrom, readNumber};
+ghost use Rattle.model.specs.Messages.{submit, reply, commit, numberOf, recordLength, recordFrom, messageFrom, readNumber};
 ghost use Rattle.messages.specs.Meaning.{fieldsIn, fieldsOf};
 use crate::Message;
 use crate::bytes::read_number;
@@ -15,6 +15,7 @@ use crate::numbers::COMMIT;
 use crate::numbers::OUTCOME;
 use crate::numbers::REPLY;
 use crate::numbers::SUBMIT;
+use records::Record;
 
 fn read_submit(s: &[u8]) -> Message
     requires { ⌜ 11 ≤ length (now s) ⌝ }
@@ -48,6 +49,25 @@ fn read_reply(s: &[u8], n: usize) -> Message
     }
 }
 
+fn read_commit(s: &[u8], n: usize) -> Message
+    requires { ⌜ (n ≤ 12) × (5 + recordLength n ≤ length (now s)) ⌝ }
+    ensures { λ r. ⌜ (r .number ≡ 0) × (fieldsIn r ≡ fieldsOf (some (commit (recordFrom n (from (words (now (s .entry))) 5))))) ⌝ }
+{
+    let newest = read_record(s, 5, n);
+    let stored = Record::zero();
+    Message {
+        number: 0,
+        kind: COMMIT,
+        member: 0,
+        slot: 0,
+        operation: 0,
+        count: 0,
+        outcome: 0,
+        newest,
+        stored,
+    }
+}
+
 pub fn read_message(s: &[u8], n: usize) -> Message
     requires { ⌜ readNumber n (now s) ≡ 0 ⌝ }
     ensures { λ r. ⌜ (r .number ≡ 0) × (fieldsIn r ≡ fieldsOf (some (messageFrom n (words (now (s .entry)))))) ⌝ }
@@ -59,13 +79,10 @@ pub fn read_message(s: &[u8], n: usize) -> Message
     if kind == REPLY {
         return read_reply(s, n);
     }
-    let mut m = Message::refused(0);
     if kind == COMMIT {
-        let newest = read_record(s, 5, n);
-        m.kind = COMMIT;
-        m.newest = newest;
-        return m;
+        return read_commit(s, n);
     }
+    let mut m = Message::refused(0);
     m.kind = OUTCOME;
     m.outcome = wide(s[4]);
     m

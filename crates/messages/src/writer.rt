@@ -77,11 +77,9 @@ pub fn write_message(t: &mut [u8], n: u32, message: Message)
         write_heading(t, 3, 4, message.outcome as u8);
         return;
     }
-    let newest = message.newest;
     if kind == COMMIT {
-        write_commit(t, n, newest);
+        write_commit(t, n, message.newest);
         return;
     }
-    let stored = message.stored;
-    write_reply(t, n, newest, stored);
+    write_reply(t, n, message.newest, message.stored);
 }

@@ -38,6 +38,10 @@ tableAfter kind l call =
     let n = words l 0 in
     unlessRefused (tableAnswer kind l call) l (tableWords n (done kind n (boardIn l) call))
 
+-- the board that the table then holds: the model's step, or the one before where the call is refused
+unfoldable pub tableBoard : Kind → List ℕ → Call → Board
+tableBoard kind l call = cond (eqb (tableAnswer kind l call) 0) (done kind (words l 0) (boardIn l) call) (boardIn l)
+
 unfoldable pub tableReturns : Kind → List ℕ → Call → Option Value
 tableReturns kind l call = cond (eqb (tableAnswer kind l call) 0) (doneReturns (boardIn l) call) none
 

@@ -27,7 +27,7 @@ use Rattle.model.proofs.AsReference.{board-phase}
 use Rattle.laws.proofs.Records.{recordOf-words, within-read, within-opening, within-zeroRecord}
 use Rattle.laws.proofs.Blocks.{member-words, member-same, member-zero, entry-read, stored-read}
 use Rattle.laws.proofs.Tables.{table-read}
-use Rattle.runs.proofs.Sound.{SoundBoard}
+use Rattle.laws.proofs.Sound.{SoundBoard}
 use Rattle.laws.proofs.Steps.{headed, begun-by, noted-by, failed-by, judged-by, dropped-by, crashed-by, kept, tookOver-read, tookOver-write}
 
 -- Functions that are blank outside 1 to n.

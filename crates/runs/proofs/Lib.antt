@@ -3,3 +3,4 @@ pub mod Sound
 pub mod Held
 pub mod Tables
 pub mod Scripts
+pub mod Words

@@ -21,7 +21,8 @@ use Rattle.model.specs.Table.{tableSize, blockAt, phaseAt, memberOf, boardOf, t
 use Rattle.model.specs.TableCalls.{openNumber, openWords, boardIn, tableAnswer, tableAfter, tableReturns, phaseWords, tableSeen, tableRun}
 use Rattle.model.proofs.Demand3.{demand3}
 use Rattle.laws.proofs.Tables.{length-table, table-zero, member-at}
-use Rattle.runs.proofs.Sound.{SoundBoard, board-sound, done-sound, opened-sound}
+use Rattle.laws.proofs.Sound.{SoundBoard, board-sound}
+use Rattle.runs.proofs.Sound.{done-sound, opened-sound}
 use Rattle.runs.proofs.Held.{HeldBoard, CallHeld, board-read, done-held, opened-held}
 
 module _ (kind : Kind) (n : ℕ) (size : inside 12 n ≡ true) where
@@ -36,7 +37,7 @@ module _ (kind : Kind) (n : ℕ) (size : inside 12 n ≡ true) where
     board-sound kind n b s,
   )
 
-  board-in : (b : Board) → HeldBoard n b → boardIn (tableWords n b) ≡ b
+  pub board-in : (b : Board) → HeldBoard n b → boardIn (tableWords n b) ≡ b
   unfolding boardIn
   board-in b h = rw (table-zero n b) (board-read n b h)
 
@@ -46,7 +47,7 @@ module _ (kind : Kind) (n : ℕ) (size : inside 12 n ≡ true) where
   unfolding tableAnswer
   same-answer b s h call = rw (table-number b s h, board-in b h, table-zero n b)
 
-  same-after : (b : Board) → SoundBoard kind n b → HeldBoard n b → (call : Call)
+  pub same-after : (b : Board) → SoundBoard kind n b → HeldBoard n b → (call : Call)
       → tableAfter kind (tableWords n b) call ≡ tableWords n (after kind n b call)
   unfolding tableAfter after
   same-after b s h call = rw (same-answer b s h call, board-in b h, table-zero n b)
@@ -69,12 +70,12 @@ module _ (kind : Kind) (n : ℕ) (size : inside 12 n ≡ true) where
       ∙ sym (ap (λ m. m .phase) (h .membersOff k p))))
 
   -- the board after a call is again one that a table can hold
-  after-sound : (b : Board) → SoundBoard kind n b → (call : Call) → SoundBoard kind n (after kind n b call)
+  pub after-sound : (b : Board) → SoundBoard kind n b → (call : Call) → SoundBoard kind n (after kind n b call)
   unfolding after
   after-sound b s call = on (eqb (answerOf kind n b call) 0)
       (λ p. rw p (done-sound kind n b call s (eqb-true (answerOf kind n b call) 0 p))) (λ p. rw p s)
 
-  after-held : (b : Board) → SoundBoard kind n b → HeldBoard n b → (call : Call) → CallHeld call → HeldBoard n (after kind n b call)
+  pub after-held : (b : Board) → SoundBoard kind n b → HeldBoard n b → (call : Call) → CallHeld call → HeldBoard n (after kind n b call)
   unfolding after
   after-held b s h call v = on (eqb (answerOf kind n b call) 0)
       (λ p. rw p (done-held kind n b call s h v (eqb-true (answerOf kind n b call) 0 p))) (λ p. rw p h)
@@ -88,7 +89,7 @@ module _ (kind : Kind) (n : ℕ) (size : inside 12 n ≡ true) where
     returned = same-returns b s h call t;
   }
 
-  same-run : (b : Board) → SoundBoard kind n b → HeldBoard n b → (calls : List Call) → Every CallHeld calls
+  pub same-run : (b : Board) → SoundBoard kind n b → HeldBoard n b → (calls : List Call) → Every CallHeld calls
       → tableRun kind (tableWords n b) calls ≡ run kind n b calls
   unfolding tableRun run
   same-run b s h [] v = refl
@@ -96,7 +97,7 @@ module _ (kind : Kind) (n : ℕ) (size : inside 12 n ≡ true) where
       (ap (λ l. tableRun kind l calls) (same-after b s h call)
       ∙ same-run (after kind n b call) (after-sound b s call) (after-held b s h call (v .0)) calls (v .1)) t
 
-open-size : (n : ℕ) (l : List ℕ) → openNumber n l ≡ 0 → inside 12 n ≡ true
+pub open-size : (n : ℕ) (l : List ℕ) → openNumber n l ≡ 0 → inside 12 n ≡ true
 unfolding openNumber
 open-size n l o = on (inside 12 n) (λ p. p) (λ p. absurd (let z : _≡_ {A = ℕ} 1 0 = rw p at o in omega arith))
 

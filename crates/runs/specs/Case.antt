@@ -6,7 +6,7 @@ use mathlib.Core.Bool.{Bool, true, false, cond, _&&_}
 use mathlib.Core.List.{List, [], _∷_, _++_}
 use mathlib.Core.Option.{Option, none, some}
 use lib.Dec.{eqb}
-use lib.ListN.{length}
+use lib.ListN.{length, replicate}
 use Rattle.lists.specs.Functions.{put}
 use Rattle.lists.specs.Parts.{listed}
 use Rattle.model.specs.Rows.{Matrix}
@@ -17,6 +17,7 @@ use Rattle.model.specs.Board.{Board}
 use Rattle.model.specs.Runs.{Call, begin, deliver, crash, Seen, run, after}
 use Rattle.model.specs.Demand3.{Every}
 use Rattle.model.specs.Messages.{reply, commit, encode}
+use Rattle.model.specs.TableCalls.{openNumber, openWords, boardIn, tableAfter, tableRun}
 
 -- Scripts, as document 01's board program reads them.
 
@@ -60,6 +61,8 @@ pub data Question : Type 0 where
   taking : ℕ → ℕ → Question
   -- how many bytes a commit of a slot's newest record is, and a reply with the slot's two records: whole messages
   sizes : ℕ → Question
+  -- of a slice of so many words, all 7: the number that opening answers, and how many words are no longer 7 after it
+  opens : ℕ → Question
 
 -- a question and the lines that answer it
 pub record Claim : Type 0 where
@@ -126,20 +129,28 @@ failingOf n i m seals =
 unfoldable pub takingOf : ℕ → ℕ → Member → ℕ → List ℕ
 takingOf n i m seals = let taken = replied n i m (m .first) (m .second) seals in taken .phase ∷ taken .halt ∷ []
 
--- the answer to a question
+unfoldable pub changed : ℕ → List ℕ → ℕ
+changed old [] = 0
+changed old (w ∷ l) = cond (eqb w old) (changed old l) (suc (changed old l))
+
+unfoldable pub opensOf : ℕ → List ℕ → List ℕ
+opensOf n l = openNumber n l ∷ changed 7 (openWords n l) ∷ []
+
+-- the answer to a question, by the board at the start, the board that the calls left, and what was seen
+unfoldable pub answerTo : ℕ → List Call → Board → Board → List Seen → Question → List (List ℕ)
+answerTo n calls b after seen output = printed calls seen
+answerTo n calls b after seen (newest r) = rowsOf n n (after .host r .newest .matrix)
+answerTo n calls b after seen (records r) = recordLine (after .host r .newest) ∷ recordLine (after .stored r) ∷ []
+answerTo n calls b after seen phases = listed n (λ i. after .members i .phase) ∷ []
+answerTo n calls b after seen halts = listed n (λ i. after .members i .halt) ∷ []
+answerTo n calls b after seen (failing i seals) = failingOf n i (b .members i) seals ∷ []
+answerTo n calls b after seen (taking i seals) = takingOf n i (b .members i) seals ∷ []
+answerTo n calls b after seen (sizes r) =
+    (length (encode n (commit (after .host r .newest))) ∷ length (encode n (reply (after .host r .newest) (after .stored r))) ∷ []) ∷ []
+answerTo n calls b after seen (opens words) = opensOf n (replicate words 7) ∷ []
+
 unfoldable pub found : Case → Question → List (List ℕ)
-found c output = printed (c .calls) (run concur (c .n) (c .start) (c .calls))
-found c (newest r) = rowsOf (c .n) (c .n) (left (c .n) (c .start) (c .calls) .host r .newest .matrix)
-found c (records r) =
-    let b = left (c .n) (c .start) (c .calls) in
-    recordLine (b .host r .newest) ∷ recordLine (b .stored r) ∷ []
-found c phases = listed (c .n) (λ i. left (c .n) (c .start) (c .calls) .members i .phase) ∷ []
-found c halts = listed (c .n) (λ i. left (c .n) (c .start) (c .calls) .members i .halt) ∷ []
-found c (failing i seals) = failingOf (c .n) i (c .start .members i) seals ∷ []
-found c (taking i seals) = takingOf (c .n) i (c .start .members i) seals ∷ []
-found c (sizes r) =
-    let b = left (c .n) (c .start) (c .calls) in
-    (length (encode (c .n) (commit (b .host r .newest))) ∷ length (encode (c .n) (reply (b .host r .newest) (b .stored r))) ∷ []) ∷ []
+found c = answerTo (c .n) (c .calls) (c .start) (left (c .n) (c .start) (c .calls)) (run concur (c .n) (c .start) (c .calls))
 
 module _ {A : Type 0} where
   -- does the test pass at every element
@@ -161,3 +172,15 @@ Holds c = Every (λ q. found c (q .question) ≡ q .lines) (c .claims)
 
 unfoldable pub holds : Case → Bool
 holds c = every (λ q. alike (alike eqb) (found c (q .question)) (q .lines)) (c .claims)
+
+-- The same on a table of words: the calls by the definitions that the board's contracts cite, and what is asked read off the words.
+
+unfoldable pub tableLeft : List ℕ → List Call → List ℕ
+tableLeft l [] = l
+tableLeft l (call ∷ calls) = tableLeft (tableAfter concur l call) calls
+
+unfoldable pub foundInWords : Case → List ℕ → Question → List (List ℕ)
+foundInWords c l = answerTo (c .n) (c .calls) (boardIn l) (boardIn (tableLeft l (c .calls))) (tableRun concur l (c .calls))
+
+abbrev pub HoldsInWords : Case → List ℕ → Type 0
+HoldsInWords c l = Every (λ q. foundInWords c l (q .question) ≡ q .lines) (c .claims)

@@ -21,6 +21,7 @@ use Rattle.runs.specs.Case.{
   failing,
   taking,
   sizes,
+  opens,
   _is_,
   Case,
 }
@@ -64,6 +65,18 @@ p3 = record {
   calls = wholeWrite 1 77 ++ (reads 2 1 ∷ delivers 2 3);
   claims = newest 1 is (pair 1 1 ∷ pair 0 0 ∷ []) ∷ [];
 }
+
+-- "n = 1 opens with 79 words; 0 and 13 give 1": of 79 words that are all 7 every one is changed; and n comes before the length
+abbrev pub opening : ℕ → ℕ → ℕ → ℕ → Case
+opening n words number changed = record {
+  n = n;
+  start = opened n;
+  calls = [];
+  claims = opens words is (pair number changed ∷ []) ∷ [];
+}
+
+abbrev pub p1 : List Case
+p1 = opening 1 79 0 79 ∷ opening 0 79 1 0 ∷ opening 13 79 1 0 ∷ opening 1 78 2 0 ∷ opening 1 80 2 0 ∷ opening 13 78 1 0 ∷ opening 2 191 0 191 ∷ []
 
 -- Refused begins.
 
@@ -341,11 +354,13 @@ mended =
     ∷ halting 27 [] (reading (rows zeroRow (row 0 1)) (by 2 (rows (row 1 0) (row 0 1))) (by 2 (rows zeroRow (row 0 1))))
     ∷ []
 
+-- The cases that start from an opened board, which are true of the table's words too.
+abbrev pub fromOpening : List Case
+fromOpening =
+    example ∷ p2 ∷ p3 ∷ p4 ∷ p5 ∷ p6 ∷ p7 ∷ p8 ∷ p10
+    ∷ newerWins ∷ crashedSubmit ∷ crashedOvertakes ∷ readsNotStored ∷ ownReadsNotStored
+    ∷ p12
+
 -- The table.
 abbrev pub cases : List Case
-cases =
-    (example ∷ p2 ∷ p3 ∷ p4 ∷ p5 ∷ p6 ∷ p7 ∷ p8 ∷ p9 ∷ p10 ∷ p11 ∷ [])
-    ++ (refusals ∷ newerWins ∷ crashedSubmit ∷ crashedOvertakes ∷ readsNotStored ∷ ownReadsNotStored ∷ seals ∷ unsealed ∷ [])
-    ++ p12
-    ++ alone
-    ++ mended
+cases = p1 ++ fromOpening ++ (p9 ∷ p11 ∷ refusals ∷ seals ∷ unsealed ∷ []) ++ alone ++ mended

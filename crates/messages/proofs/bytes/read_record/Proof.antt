@@ -9,13 +9,13 @@ use Rattle.records.specs.Meaning.{recordIn}
 use Rattle.messages.proofs.bytes.read_record.Statement.{statement}
 use Rattle.messages.proofs.bytes.read_record.Tie as tie
 
-add-read-number : tie.Need-add-read-number
+add-read-matrix : tie.Need-add-read-matrix
 unfolding recordLength
-add-read-number c = record { fits = omega arith }
+add-read-matrix c = record { fits = omega arith }
 
-read-number-requires : tie.Need-read-number-requires
+read-matrix-requires : tie.Need-read-matrix-requires
 unfolding recordLength
-read-number-requires c κs = omega arith
+read-matrix-requires c κs = (omega arith, omega arith)
 
 add-read-value : tie.Need-add-read-value
 unfolding recordLength
@@ -25,13 +25,13 @@ read-value-requires : tie.Need-read-value-requires
 unfolding recordLength
 read-value-requires c κs = omega arith
 
-add-read-matrix : tie.Need-add-read-matrix
+add-read-number : tie.Need-add-read-number
 unfolding recordLength
-add-read-matrix c = record { fits = omega arith }
+add-read-number c = record { fits = omega arith }
 
-read-matrix-requires : tie.Need-read-matrix-requires
+read-number-requires : tie.Need-read-number-requires
 unfolding recordLength
-read-matrix-requires c κs = (omega arith, omega arith)
+read-number-requires c κs = omega arith
 
 shared-slice-read-wide : tie.Need-shared-slice-read-wide
 unfolding recordLength
@@ -70,9 +70,9 @@ returns c =
       c .before .before .before .before .wide .ensures,
       c .before .before .wide2 .ensures,
       c .wide3 .ensures,
-      c .before .before .before .before .before .before .before .before .read-number .ensures,
+      c .before .before .before .before .before .before .read-number .ensures,
       c .before .before .before .before .before .before .before .read-value .ensures,
-      c .before .before .before .before .before .before .read-matrix .ensures,
+      c .before .before .before .before .before .before .before .before .read-matrix .ensures,
     )
     (sym (recordFrom-parts (a .n) (words (a .s .now)) (a .at)))
 
@@ -80,12 +80,12 @@ pub read-record-spec : {M : Type 1} → statement M
 read-record-spec =
     tie.close
     (tie.spec
-    add-read-number
-    read-number-requires
-    add-read-value
-    read-value-requires
     add-read-matrix
     read-matrix-requires
+    add-read-value
+    read-value-requires
+    add-read-number
+    read-number-requires
     shared-slice-read-wide
     wide-requires
     add-wide

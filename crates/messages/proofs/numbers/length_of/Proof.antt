@@ -21,25 +21,28 @@ sub-at-2 c = search needs
 add-at : tie.Need-add-at
 add-at c = search needs
 
-cast-result : tie.Need-cast-result
-cast-result c = search needs
+cast-wide-length : tie.Need-cast-wide-length
+cast-wide-length c = search needs
 
-mul-result : tie.Need-mul-result
-mul-result c = search needs
+mul-wide-length : tie.Need-mul-wide-length
+mul-wide-length c = search needs
 
-array-read-result : tie.Need-array-read-result
-array-read-result c = search needs
+array-read-wide-length : tie.Need-array-read-wide-length
+array-read-wide-length c = search needs
+
+wide-length-requires : tie.Need-wide-length-requires
+wide-length-requires c κs = search needs
 
 returns : tie.Need-returns
 unfolding tabulate lengthOf
 returns c =
-    let a = c .args in
+    let a = c .before .args in
     let k : ℕ = (a .kind - 1) * 12 + (a .n - 1) in
     let kind : k / 12 + 1 ≡ a .kind = omega arith in
     let n : k % 12 + 1 ≡ a .n = omega arith in
-    tabulate-at 48 (λ k. lengthOf (k / 12 + 1) (k % 12 + 1)) k (omega arith) ∙ (λ i. lengthOf (kind i) (n i))
+    c .wide-length .ensures ∙ tabulate-at 48 (λ k. lengthOf (k / 12 + 1) (k % 12 + 1)) k (omega arith) ∙ (λ i. lengthOf (kind i) (n i))
 
 pub length-of-spec : {M : Type 1} → statement M
 length-of-spec =
     tie.close
-    (tie.spec sub-at mul-at sub-at-2 add-at cast-result mul-result array-read-result returns)
+    (tie.spec sub-at mul-at sub-at-2 add-at cast-wide-length mul-wide-length array-read-wide-length wide-length-requires returns)

@@ -51,37 +51,24 @@ returns-2 c =
     let k : words l 3 ≡ 2 = sym (c .before .before .before .wide .ensures) ∙ c .before .if2 .taken in
     (c .read-reply .ensures .0, c .read-reply .ensures .1 ∙ ap (λ m. fieldsOf (some m)) (sym (from-reply (c .before .before .before .before .before .before .args .n) (words l) k)))
 
-refused-requires : tie.Need-refused-requires
-refused-requires c κs = search needs
-
-read-record-requires : tie.Need-read-record-requires
+read-commit-requires : tie.Need-read-commit-requires
 unfolding lengthOf recordLength
-read-record-requires c κs =
-    let l = c .before .before .before .before .before .before .before .args .s .now in
-    let h = readable (c .before .before .before .before .before .before .before .args .n) l (c .before .before .before .before .before .before .before .pre) in
-    let k : words l 3 ≡ 3 = sym (c .before .before .before .before .wide .ensures) ∙ c .if3 .taken in
-    let s = sized (c .before .before .before .before .before .before .before .args .n) l 3 (h .whole) k in
+read-commit-requires c κs =
+    let l = c .before .before .before .before .before .before .args .s .now in
+    let h = readable (c .before .before .before .before .before .before .args .n) l (c .before .before .before .before .before .before .pre) in
+    let k : words l 3 ≡ 3 = sym (c .before .before .before .wide .ensures) ∙ c .if3 .taken in
+    let s = sized (c .before .before .before .before .before .before .args .n) l 3 (h .whole) k in
     (h .high, omega arith)
 
 returns-3 : tie.Need-returns-3
-unfolding fieldsIn fieldsOf
 returns-3 c =
-    let l = c .before .before .before .before .before .before .before .before .args .s .now in
-    let h = readable (c .before .before .before .before .before .before .before .before .args .n) l (c .before .before .before .before .before .before .before .before .pre) in
-    let k : words l 3 ≡ 3 = sym (c .before .before .before .before .before .wide .ensures) ∙ c .before .if3 .taken in (
-      c .before .before .refused .ensures .0,
-      (λ i. record {
-        kind = 3;
-        member = c .before .before .refused .ensures .1 i .member;
-        slot = c .before .before .refused .ensures .1 i .slot;
-        operation = c .before .before .refused .ensures .1 i .operation;
-        count = c .before .before .refused .ensures .1 i .count;
-        result = c .before .before .refused .ensures .1 i .result;
-        newest = c .read-record .ensures i;
-        stored = c .before .before .refused .ensures .1 i .stored;
-      })
-          ∙ ap (λ m. fieldsOf (some m)) (sym (from-commit (c .before .before .before .before .before .before .before .before .args .n) (words l) k)),
-    )
+    let l = c .before .before .before .before .before .before .before .args .s .now in
+    let h = readable (c .before .before .before .before .before .before .before .args .n) l (c .before .before .before .before .before .before .before .pre) in
+    let k : words l 3 ≡ 3 = sym (c .before .before .before .before .wide .ensures) ∙ c .before .if3 .taken in
+    (c .read-commit .ensures .0, c .read-commit .ensures .1 ∙ ap (λ m. fieldsOf (some m)) (sym (from-commit (c .before .before .before .before .before .before .before .args .n) (words l) k)))
+
+refused-requires : tie.Need-refused-requires
+refused-requires c κs = search needs
 
 shared-slice-read-wide-2 : tie.Need-shared-slice-read-wide-2
 shared-slice-read-wide-2 c =
@@ -97,17 +84,17 @@ unfolding fieldsIn fieldsOf
 returns-4 c =
     let l = c .before .before .before .before .before .before .before .before .before .args .s .now in
     let h = readable (c .before .before .before .before .before .before .before .before .before .args .n) l (c .before .before .before .before .before .before .before .before .before .pre) in
-    let k : words l 3 ≡ 4 = omega (arith, c .before .before .before .before .before .before .wide .ensures, c .before .before .before .before .before .if1 .left, c .before .before .before .before .if2 .left, c .before .before .if3 .left, h .kind-low, h .kind-high) in (
-      c .before .before .before .refused .ensures .0,
+    let k : words l 3 ≡ 4 = omega (arith, c .before .before .before .before .before .before .wide .ensures, c .before .before .before .before .before .if1 .left, c .before .before .before .before .if2 .left, c .before .before .before .if3 .left, h .kind-low, h .kind-high) in (
+      c .before .before .refused .ensures .0,
       (λ i. record {
         kind = 4;
-        member = c .before .before .before .refused .ensures .1 i .member;
-        slot = c .before .before .before .refused .ensures .1 i .slot;
-        operation = c .before .before .before .refused .ensures .1 i .operation;
-        count = c .before .before .before .refused .ensures .1 i .count;
+        member = c .before .before .refused .ensures .1 i .member;
+        slot = c .before .before .refused .ensures .1 i .slot;
+        operation = c .before .before .refused .ensures .1 i .operation;
+        count = c .before .before .refused .ensures .1 i .count;
         result = c .wide2 .ensures i;
-        newest = c .before .before .before .refused .ensures .1 i .newest;
-        stored = c .before .before .before .refused .ensures .1 i .stored;
+        newest = c .before .before .refused .ensures .1 i .newest;
+        stored = c .before .before .refused .ensures .1 i .stored;
       })
           ∙ ap (λ m. fieldsOf (some m)) (sym (from-outcome (c .before .before .before .before .before .before .before .before .before .args .n) (words l) k)),
     )
@@ -122,9 +109,9 @@ read-message-spec =
     returns
     read-reply-requires
     returns-2
-    refused-requires
-    read-record-requires
+    read-commit-requires
     returns-3
+    refused-requires
     shared-slice-read-wide-2
     wide-requires-2
     returns-4)

@@ -75,14 +75,14 @@ returns-2 c =
 write-commit-requires : tie.Need-write-commit-requires
 unfolding fitMessage fitRecord fieldsIn recordIn lengthOf recordLength
 write-commit-requires c κs =
-    let f = fieldsIn (c .before .before .before .before .before .before .args .message) in
-    let n = c .before .before .before .before .before .before .args .n in
-    let w = writable-of n (messageOf f) (length (c .before .before .before .before .before .before .args .t .now)) (c .before .before .before .before .before .before .pre) in
+    let f = fieldsIn (c .before .before .before .before .before .args .message) in
+    let n = c .before .before .before .before .before .args .n in
+    let w = writable-of n (messageOf f) (length (c .before .before .before .before .before .args .t .now)) (c .before .before .before .before .before .pre) in
     let k = given-commit f (c .before .if3 .taken) in (
       inside-low 12 n (w .0),
       (
         inside-high 12 n (w .0),
-        (omega (arith, given-room f n 3 _ (c .before .if3 .taken) (c .before .before .before .before .before .before .pre)), fit-small n _ _ _ (inside-high 12 n (w .0)) (given-fit f n _ _ k (c .before .before .before .before .before .before .pre))),
+        (omega (arith, given-room f n 3 _ (c .before .if3 .taken) (c .before .before .before .before .before .pre)), fit-small n _ _ _ (inside-high 12 n (w .0)) (given-fit f n _ _ k (c .before .before .before .before .before .pre))),
       ),
     )
 
@@ -92,27 +92,27 @@ same-length-3 c = c .before .before .write-commit .kept .0
 returns-3 : tie.Need-returns-3
 unfolding fieldsIn
 returns-3 c =
-    let f = fieldsIn (c .before .before .before .before .before .before .before .before .before .args .message) in
-    let n = c .before .before .before .before .before .before .before .before .before .args .n in
-    let l = c .before .before .before .before .before .before .before .before .before .args .t .now in
-    wrote f n (commit (recordIn (c .before .before .before .before .before .before .before .before .before .args .message .newest))) l (c .before .before .write-commit .last .0) (given-commit f (c .before .before .before .before .if3 .taken)) (c .before .before .before .before .before .before .before .before .before .pre) (c .before .before .write-commit .kept .0)
+    let f = fieldsIn (c .before .before .before .before .before .before .before .before .args .message) in
+    let n = c .before .before .before .before .before .before .before .before .args .n in
+    let l = c .before .before .before .before .before .before .before .before .args .t .now in
+    wrote f n (commit (recordIn (c .before .before .before .before .before .before .before .before .args .message .newest))) l (c .before .before .write-commit .last .0) (given-commit f (c .before .before .before .before .if3 .taken)) (c .before .before .before .before .before .before .before .before .pre) (c .before .before .write-commit .kept .0)
     (c .before .before .write-commit .ensures)
 
 write-reply-requires : tie.Need-write-reply-requires
 unfolding fitMessage fitRecord fieldsIn recordIn lengthOf recordLength
 write-reply-requires c κs =
-    let f = fieldsIn (c .before .before .before .before .before .before .before .args .message) in
-    let n = c .before .before .before .before .before .before .before .args .n in
-    let w = writable-of n (messageOf f) (length (c .before .before .before .before .before .before .before .args .t .now)) (c .before .before .before .before .before .before .before .pre) in
-    let k : c .before .before .before .before .before .before .before .args .message .kind ≡ 2 = two f n (length (c .before .before .before .before .before .before .before .args .t .now)) (c .before .before .before .before .before .before .before .pre) (c .before .before .before .before .before .if1 .left) (c .before .before .if3 .left) (c .before .before .before .before .if2 .left) in
-    let a = recordIn (c .before .before .before .before .before .before .before .args .message .newest) in
-    let b = recordIn (c .before .before .before .before .before .before .before .args .message .stored) in
-    let e = given-fit f n (reply a b) _ (given-reply f k) (c .before .before .before .before .before .before .before .pre) in (
+    let f = fieldsIn (c .before .before .before .before .before .args .message) in
+    let n = c .before .before .before .before .before .args .n in
+    let w = writable-of n (messageOf f) (length (c .before .before .before .before .before .args .t .now)) (c .before .before .before .before .before .pre) in
+    let k : c .before .before .before .before .before .args .message .kind ≡ 2 = two f n (length (c .before .before .before .before .before .args .t .now)) (c .before .before .before .before .before .pre) (c .before .before .before .if1 .left) (c .before .if3 .left) (c .before .before .if2 .left) in
+    let a = recordIn (c .before .before .before .before .before .args .message .newest) in
+    let b = recordIn (c .before .before .before .before .before .args .message .stored) in
+    let e = given-fit f n (reply a b) _ (given-reply f k) (c .before .before .before .before .before .pre) in (
       inside-low 12 n (w .0),
       (
         inside-high 12 n (w .0),
         (
-          omega (arith, given-room f n 2 _ k (c .before .before .before .before .before .before .before .pre)),
+          omega (arith, given-room f n 2 _ k (c .before .before .before .before .before .pre)),
           (
             fit-small n _ _ _ (inside-high 12 n (w .0)) (first (fitRecord n a) (fitRecord n b) e),
             fit-small n _ _ _ (inside-high 12 n (w .0)) (second (fitRecord n a) (fitRecord n b) e),
@@ -127,11 +127,11 @@ same-length-4 c = c .before .before .write-reply .kept .0
 returns-4 : tie.Need-returns-4
 unfolding fieldsIn
 returns-4 c =
-    let f = fieldsIn (c .before .before .before .before .before .before .before .before .before .before .args .message) in
-    let n = c .before .before .before .before .before .before .before .before .before .before .args .n in
-    let l = c .before .before .before .before .before .before .before .before .before .before .args .t .now in
-    let k : c .before .before .before .before .before .before .before .before .before .before .args .message .kind ≡ 2 = two f n (length (c .before .before .before .before .before .before .before .before .before .before .args .t .now)) (c .before .before .before .before .before .before .before .before .before .before .pre) (c .before .before .before .before .before .before .before .before .if1 .left) (c .before .before .before .before .before .if3 .left) (c .before .before .before .before .before .before .before .if2 .left) in
-    wrote f n (reply (recordIn (c .before .before .before .before .before .before .before .before .before .before .args .message .newest)) (recordIn (c .before .before .before .before .before .before .before .before .before .before .args .message .stored))) l (c .before .before .write-reply .last .0) (given-reply f k) (c .before .before .before .before .before .before .before .before .before .before .pre)
+    let f = fieldsIn (c .before .before .before .before .before .before .before .before .args .message) in
+    let n = c .before .before .before .before .before .before .before .before .args .n in
+    let l = c .before .before .before .before .before .before .before .before .args .t .now in
+    let k : c .before .before .before .before .before .before .before .before .args .message .kind ≡ 2 = two f n (length (c .before .before .before .before .before .before .before .before .args .t .now)) (c .before .before .before .before .before .before .before .before .pre) (c .before .before .before .before .before .before .if1 .left) (c .before .before .before .before .if3 .left) (c .before .before .before .before .before .if2 .left) in
+    wrote f n (reply (recordIn (c .before .before .before .before .before .before .before .before .args .message .newest)) (recordIn (c .before .before .before .before .before .before .before .before .args .message .stored))) l (c .before .before .write-reply .last .0) (given-reply f k) (c .before .before .before .before .before .before .before .before .pre)
     (c .before .before .write-reply .kept .0) (c .before .before .write-reply .ensures)
 
 pub write-message-spec : {M : Type 1} → statement M

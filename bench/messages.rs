@@ -1,0 +1,126 @@
+// The message check, the reader and the writer, proved and in plain Rust. bench/run.sh builds and runs it.
+mod plain_messages;
+mod timing;
+
+use plain_messages as plain;
+use std::hint::black_box;
+use timing::{compare, heading};
+
+// A reading answers the sum of two counts. Both readers stand as functions of their own in the program, so the whole message is made.
+mod ours {
+    extern "C" {
+        pub fn concur_message_check(bytes: *const u8, length: usize, n: u32) -> u32;
+        pub fn concur_bench_read(bytes: *const u8, length: usize, n: u32) -> u32;
+        pub fn concur_bench_write(bytes: *const u8, length: usize, n: u32, out: *mut u8, room: usize, more: u32) -> u32;
+    }
+}
+
+fn our_check(bytes: &[u8], n: u32) -> u32 {
+    unsafe { ours::concur_message_check(bytes.as_ptr(), bytes.len(), n) }
+}
+
+fn our_read(bytes: &[u8], n: u32) -> u32 {
+    unsafe { ours::concur_bench_read(bytes.as_ptr(), bytes.len(), n) }
+}
+
+fn our_write(bytes: &[u8], n: u32, out: &mut [u8], more: u32) -> u32 {
+    unsafe { ours::concur_bench_write(bytes.as_ptr(), bytes.len(), n, out.as_mut_ptr(), out.len(), more) }
+}
+
+#[inline(never)]
+fn plain_check(bytes: &[u8], n: u32) -> u32 {
+    plain::check(bytes, n)
+}
+
+#[inline(never)]
+fn plain_read(bytes: &[u8], n: u32) -> u32 {
+    let m = plain::read(bytes, n);
+    m.newest.count.wrapping_add(m.stored.count)
+}
+
+#[inline(never)]
+fn plain_write(bytes: &[u8], n: u32, out: &mut [u8], more: u32) -> u32 {
+    let m = plain::read(bytes, n);
+    let (number, _) = plain::write(m, n, out);
+    for _ in 0..more {
+        plain::write(m, n, out);
+    }
+    number
+}
+
+/// A record with no byte zero after its first three.
+fn a_record(n: u32) -> plain::Record {
+    let mut r = plain::Record { member: 1, slot: n, operation: 1, count: 0x01020304, ..Default::default() };
+    for i in 0..8 {
+        r.value[i] = 0x11223344 + i as u32;
+    }
+    for j in 0..n as usize {
+        for k in 0..n as usize {
+            r.matrix[j].counts[k] = 0x55667788 + (12 * j + k) as u32;
+        }
+    }
+    r
+}
+
+fn a_message(kind: u32, n: u32) -> Vec<u8> {
+    let mut m = plain::Message { kind, member: 1, slot: n, operation: 1, count: 0x01020304, outcome: 1, ..Default::default() };
+    m.newest = a_record(n);
+    m.stored = a_record(n);
+    let mut out = vec![0; 1235];
+    let (number, length) = plain::write(m, n, &mut out);
+    assert_eq!(number, 0);
+    out.truncate(length);
+    out
+}
+
+/// Both must do the same before their times mean anything.
+fn same(bytes: &[u8], n: u32) {
+    assert_eq!(our_check(bytes, n), plain_check(bytes, n));
+    assert_eq!(our_read(bytes, n), plain_read(bytes, n));
+    for room in [1300, bytes.len(), bytes.len() - 1] {
+        let (mut a, mut b) = (vec![7u8; room], vec![7u8; room]);
+        assert_eq!(our_write(bytes, n, &mut a, 1), plain_write(bytes, n, &mut b, 1));
+        assert_eq!(a, b);
+    }
+}
+
+// Keeps the compiler from leaving a call out.
+fn used(answer: u32) {
+    black_box(answer);
+}
+
+// A message is read once for so many writings.
+const WRITINGS: u32 = 1000;
+
+fn time(what: &str, bytes: &[u8], n: u32) {
+    let name = |call: &str| format!("{} {}, n = {}", call, what, n);
+    let check = compare(
+        || used(our_check(black_box(bytes), black_box(n))),
+        || used(plain_check(black_box(bytes), black_box(n))),
+    );
+    check.print(&name("check"));
+    let read = compare(
+        || used(our_read(black_box(bytes), black_box(n))),
+        || used(plain_read(black_box(bytes), black_box(n))),
+    );
+    read.print(&name("read"));
+    let (mut a, mut b) = (vec![0u8; 1235], vec![0u8; 1235]);
+    let write = compare(
+        || used(our_write(black_box(bytes), black_box(n), black_box(&mut a), WRITINGS - 1)),
+        || used(plain_write(black_box(bytes), black_box(n), black_box(&mut b), WRITINGS - 1)),
+    );
+    write.each_of(WRITINGS).print(&name("write"));
+}
+
+fn main() {
+    let kinds = [("submit", plain::SUBMIT), ("reply", plain::REPLY), ("commit", plain::COMMIT), ("outcome", plain::OUTCOME)];
+    heading();
+    for n in [2, 12] {
+        for (what, kind) in kinds {
+            let bytes = a_message(kind, n);
+            same(&bytes, n);
+            same(&bytes[..bytes.len() - 1], n);
+            time(what, &bytes, n);
+        }
+    }
+}

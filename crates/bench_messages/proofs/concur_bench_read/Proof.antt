@@ -1,0 +1,21 @@
+-- `concur_bench_read` meets its contract. Assumes nothing.
+use borrow.Author.Needs.{needs}
+use mathlib.Core.Path.{ap, _∙_}
+use Rattle.records.specs.Meaning.{recordIn}
+use Rattle.messages.specs.Meaning.{fieldsIn}
+use Rattle.bench_messages.specs.Counts.{bothCounts}
+use Rattle.bench_messages.proofs.concur_bench_read.Statement.{statement}
+use Rattle.bench_messages.proofs.concur_bench_read.Tie as tie
+
+read-requires : tie.Need-read-requires
+read-requires c κs = search needs
+
+wrapping-add-u32-requires : tie.Need-wrapping-add-u32-requires
+wrapping-add-u32-requires c κs = search needs
+
+returns : tie.Need-returns
+unfolding bothCounts fieldsIn recordIn
+returns c = c .wrapping-add-u32 .ensures ∙ ap bothCounts (c .before .read .ensures .1)
+
+pub concur-bench-read-spec : {M : Type 1} → statement M
+concur-bench-read-spec = tie.close (tie.spec read-requires wrapping-add-u32-requires returns)

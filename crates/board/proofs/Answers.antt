@@ -1,0 +1,203 @@
+-- What is known of a table that passed its check, and what a call leaves and answers.
+use Prim.Native.Nat.{ℕ, _+_, _<_, _^_}
+use native.Mathlib.Omega.{arith}
+use mathlib.Core.Path.{_≡_, refl, sym, ap, _∙_}
+use mathlib.Core.Bool.{true, false, cond, not}
+use mathlib.Core.List.{List}
+use mathlib.Core.Option.{Option, none}
+use lib.Dec.{eqb}
+use lib.ListN.{length}
+use borrow.Author.Tests.{eqb-true, ne-eqb, not-false}
+use Rattle.lists.specs.Functions.{inside, each}
+use Rattle.lists.specs.Parts.{words}
+use Rattle.lists.proofs.Functions.{on, inside-low, inside-high, inside-in}
+use Rattle.model.specs.Kinds.{concur}
+use Rattle.model.specs.Records.{Value, zeroValue}
+use Rattle.model.specs.RecordWords.{valueOf}
+use Rattle.model.specs.Numbers.{beginAnswer, deliverAnswer, crashAnswer}
+use Rattle.model.specs.Member.{returnedBy}
+use Rattle.model.specs.Board.{Board, outcomeTaken, boardDelivered, boardReturned}
+use Rattle.model.specs.Runs.{Call, begin, deliver, crash, answerOf, done, doneReturns, after}
+use Rattle.model.specs.Table.{tableSize, boardOf, tableNumber, soundBoard}
+use Rattle.model.specs.TableCalls.{boardIn, tableAnswer, tableAfter, tableBoard, tableReturns}
+use Rattle.model.proofs.Answers.{deliver-taken}
+use Rattle.model.proofs.AsReference.{board-phase}
+use Rattle.laws.proofs.Sound.{board-parts}
+use Rattle.laws.proofs.Tables.{table-back}
+use Rattle.laws.proofs.Numbers.{no-ground}
+use Rattle.member.specs.Needs.{Within}
+use Rattle.member.specs.Results.{Taken, returnedIn}
+use Rattle.member.specs.declared.Outcome.{Outcome}
+use Rattle.board.specs.Needs.{Table, Sound, Turn, Left, Answered}
+use Rattle.board.proofs.Lent.{left-words}
+use Rattle.board.proofs.Places.{table-positive}
+
+-- a table that no number of its own refuses
+pub good : (l : List ℕ) → tableNumber concur l ≡ 0 → Sound (words l 0) l
+unfolding tableNumber
+good l h =
+    let n = words l 0 in
+    let p1 = no-ground (not (inside 12 n)) 3 _ (omega arith) h in
+    let p2 = no-ground (not (eqb (length l) (tableSize n))) 2 _ (omega arith) (p1 .1) in
+    let p3 = no-ground (not (soundBoard concur n (boardOf n (words l)))) 3 0 (omega arith) (p2 .1) in
+    let size = not-false (inside 12 n) (p1 .0) in
+    record {
+      table = record {
+        least = inside-low 12 n size;
+        most = inside-high 12 n size;
+        long = eqb-true (length l) (tableSize n) (not-false _ (p2 .0));
+        size = refl;
+      };
+      sound = not-false _ (p3 .0);
+    }
+
+pub some-words : (l : List ℕ) → tableNumber concur l ≡ 0 → 0 < length l
+some-words l h = omega (arith, good l h .table .long, table-positive (words l 0))
+
+pub within : (n i : ℕ) → inside n i ≡ true → Within n i
+within n i h = record { least = inside-low n i h; most = inside-high n i h }
+
+module _ (n : ℕ) (l : List ℕ) (call : Call) where
+  abbrev answer : ℕ
+  answer = answerOf concur n (boardOf n (words l)) call
+
+  -- A call on a table that passed its check: refused, the table is as it was; else it is the step's.
+  pub refuses : (k : ℕ) → Table n l → k ≡ answer → (k ≡ 0 → ⊥) → Answered n l call k l
+  unfolding after
+  refuses k t e ne = record {
+    number = e;
+    left = record { table = t; board = rw (← e, ne-eqb k 0 ne) };
+  }
+
+  pub takes : (exit : List ℕ) → 0 ≡ answer → Left n (done concur n (boardOf n (words l)) call) exit → Answered n l call 0 exit
+  unfolding after
+  takes exit e h = record { number = e; left = rw (← e) h }
+
+-- Any table, refused by a number of its own.
+module _ (l : List ℕ) (call : Call) (k : ℕ) (e : k ≡ tableNumber concur l) (ne : k ≡ 0 → ⊥) where
+  same : eqb (tableNumber concur l) 0 ≡ false
+  same = rw (← e) (ne-eqb k 0 ne)
+
+  pub own-number : k ≡ tableAnswer concur l call
+  unfolding tableAnswer
+  own-number = rw same e
+
+  refused : eqb (tableAnswer concur l call) 0 ≡ false
+  refused = rw (← own-number) (ne-eqb k 0 ne)
+
+  pub own-table : l ≡ tableAfter concur l call
+  unfolding tableAfter
+  own-table = rw refused
+
+  pub own-board : boardIn l ≡ tableBoard concur l call
+  unfolding tableBoard
+  own-board = rw refused
+
+  pub own-returns : none ≡ tableReturns concur l call
+  unfolding tableReturns
+  own-returns = rw refused
+
+-- A table that passed its check, after a call.
+module _ {k : ℕ} (l exit : List ℕ) (call : Call) (e : k ≡ tableNumber concur l) (z : k ≡ 0) where
+  passed : tableNumber concur l ≡ 0
+  passed = sym e ∙ z
+
+  abbrev n : ℕ
+  n = words l 0
+
+  abbrev b : Board
+  b = boardOf n (words l)
+
+  same-answer : answerOf concur n b call ≡ tableAnswer concur l call
+  unfolding tableAnswer boardIn
+  same-answer = rw passed
+
+  pub call-returns : {r : Option Value} → r ≡ cond (eqb (answerOf concur n b call) 0) (doneReturns b call) none → r ≡ tableReturns concur l call
+  unfolding tableReturns boardIn
+  call-returns h = rw (← same-answer) h
+
+  module _ {number : ℕ} (h : Answered n l call number exit) where
+    pub call-number : number ≡ tableAnswer concur l call
+    call-number = h .number ∙ same-answer
+
+    pub call-table : exit ≡ tableAfter concur l call
+    unfolding tableAfter boardIn after
+    call-table =
+        left-words (h .left)
+        ∙ rw (← same-answer) (on (eqb (answerOf concur n b call) 0)
+        (λ p. rw p)
+        (λ p. rw p (table-back n l (good l passed .table .long) refl)))
+
+    pub call-board : boardIn exit ≡ tableBoard concur l call
+    unfolding tableBoard boardIn after
+    call-board = ap (λ k. boardOf k (words exit)) (h .left .table .size) ∙ h .left .board ∙ rw (← same-answer)
+
+-- A deliver that nothing refuses has a member whose operation has a slot of the board.
+pub turn : {n i : ℕ} {l : List ℕ} → Sound n l → Within n i
+    → deliverAnswer n (boardOf n (words l) .members i .phase) (boardOf n (words l) .members i .crashed) i ≡ 0 → Turn n i l
+turn {n} {i} {l} s w h =
+    let m = boardOf n (words l) .members i in
+    let d = deliver-taken n (m .phase) (m .crashed) i h in
+    let parts = board-parts concur n (boardOf n (words l)) (s .sound) .members i (inside-in n i (w .least) (w .most)) in
+    let p = parts .phase in
+    let low = d .notIdle in
+    let high = d .notHalted in
+    let o = parts .operates (inside-in 5 (m .phase) (omega arith) (omega arith)) in
+    record { table = s .table; member = w; slot = record { least = o .slotLeast; most = parts .slot } }
+
+-- A result without a value, and one that was taken.
+pub taken-none : (r : Outcome) → r .number ≡ 0 → returnedIn r ≡ none → valueOf (words (r .value)) ≡ zeroValue → Taken r none
+taken-none r a b c = record { number = a; value = b; blank = λ _. c }
+
+-- What a deliver hands back: refused, and taken.
+abbrev pub Handed : (n : ℕ) (l : List ℕ) (call : Call) (r : Outcome) (exit : List ℕ) → Type 0
+Handed n l call r exit =
+    (Answered n l call (r .number) exit)
+    × ((returnedIn r ≡ cond (eqb (answerOf concur n (boardOf n (words l)) call) 0) (doneReturns (boardOf n (words l)) call) none)
+    × (r .returned ≡ false → valueOf (words (r .value)) ≡ zeroValue))
+
+module _ (n : ℕ) (l : List ℕ) (call : Call) (r : Outcome) where
+  pub hands-none : (k : ℕ) → Table n l → k ≡ answerOf concur n (boardOf n (words l)) call → (k ≡ 0 → ⊥) → r .number ≡ k → returnedIn r ≡ none
+      → valueOf (words (r .value)) ≡ zeroValue → Handed n l call r l
+  hands-none k t e ne a b c = (
+    rw a (refuses n l call k t e ne),
+    (rw (← e, ne-eqb k 0 ne) b, λ _. c),
+  )
+
+  pub hands : (exit : List ℕ) → 0 ≡ answerOf concur n (boardOf n (words l)) call → Left n (done concur n (boardOf n (words l)) call) exit
+      → Taken r (doneReturns (boardOf n (words l)) call) → Handed n l call r exit
+  hands exit e h t = (
+    rw (t .number) (takes n l call exit e h),
+    (rw (← e) (t .value), t .blank),
+  )
+
+-- No member: number 4 of each call.
+module _ (n : ℕ) (b : Board) (i : ℕ) where
+  pub no-begin : (r t : ℕ) (v : Value) → inside n i ≡ false → 4 ≡ answerOf concur n b (begin i r t v)
+  unfolding answerOf beginAnswer
+  no-begin r t v p = rw p
+
+  pub no-deliver : inside n i ≡ false → 4 ≡ answerOf concur n b (deliver i)
+  unfolding answerOf deliverAnswer
+  no-deliver p = rw p
+
+  pub no-crash : inside n i ≡ false → 4 ≡ answerOf concur n b (crash i)
+  unfolding answerOf crashAnswer
+  no-crash p = rw p
+
+  -- in phases 1 to 3 nothing is returned
+  pub none-at : (p : ℕ) → b .members i .phase ≡ p → eqb p 4 ≡ false → boardReturned b i ≡ none
+  unfolding boardReturned returnedBy
+  none-at p e f = rw (e, f)
+
+-- in phases 4 and 5 the outcome is taken
+module _ (n : ℕ) (b : Board) (i p : ℕ) (e : b .members i .phase ≡ p) where
+  pub last-returned : returnedBy (b .members i) (eqb p 4) ≡ boardReturned b i
+  unfolding boardReturned
+  last-returned = rw e
+
+  pub last-phase : (p ≡ 1 → ⊥) → (p ≡ 2 → ⊥) → (p ≡ 3 → ⊥) → outcomeTaken b i (eqb p 4) ≡ boardDelivered concur n b i
+  last-phase x y z = sym (board-phase concur n b i p e ∙ rw (ne-eqb p 1 x, ne-eqb p 2 y, ne-eqb p 3 z))
+
+pub count-room : {k : ℕ} → k < concur .limit → k + 1 < 2 ^ 32
+count-room h = omega arith

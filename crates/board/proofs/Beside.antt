@@ -1,0 +1,113 @@
+-- Calls with a slice beside the table: what the C interface answers and leaves.
+use Prim.Native.Nat.{ℕ, _+_}
+use native.Mathlib.Omega.{arith}
+use mathlib.Core.Path.{_≡_, sym, ap, _∙_}
+use mathlib.Core.Bool.{false, cond}
+use mathlib.Core.List.{List, _∷_}
+use mathlib.Core.Option.{Option, none, some}
+use lib.ListN.{length, set}
+use borrow.Author.Tests.{eq-eqb, ne-eqb}
+use Rattle.lists.specs.Functions.{from, pasted, numbered}
+use Rattle.lists.specs.Parts.{words, tabulate, listed}
+use Rattle.lists.proofs.Functions.{on, put-at, pasted-below, from-pasted-at, numbered-at}
+use Rattle.lists.proofs.Parts.{words-set, tabulate-same}
+use Rattle.lists.proofs.Pieces.{tabulate-join, tabulate-of}
+use Rattle.model.specs.Kinds.{concur}
+use Rattle.model.specs.Records.{Value, zeroValue}
+use Rattle.model.specs.RecordWords.{valueOf}
+use Rattle.model.specs.Runs.{Call, begin}
+use Rattle.model.specs.Table.{valueSize, tableNumber}
+use Rattle.model.specs.TableCalls.{tableAnswer, tableAfter, tableReturns}
+use Rattle.laws.proofs.Records.{valueOf-same}
+use Rattle.member.specs.Results.{returnedIn}
+use Rattle.member.specs.declared.Outcome.{Outcome}
+use Rattle.board.specs.Needs.{Answered}
+use Rattle.board.specs.Interface.{answerBeside, afterBeside, returnedSize, returnedWords, returnedAfter}
+use Rattle.board.proofs.Answers.{call-number, call-table}
+
+module _ (long due : ℕ) (l : List ℕ) (call : Call) where
+  -- refused, the table is as it was
+  pub beside-refused : {k : ℕ} → k ≡ answerBeside long due l call → (k ≡ 0 → ⊥) → l ≡ afterBeside long due l call
+  unfolding afterBeside
+  beside-refused {k} e ne = rw (← e, ne-eqb k 0 ne)
+
+  -- by the table's own number
+  pub beside-own : {k : ℕ} → k ≡ tableNumber concur l → (k ≡ 0 → ⊥) → k ≡ answerBeside long due l call
+  unfolding answerBeside
+  beside-own {k} e ne = rw (← e, ne-eqb k 0 ne)
+
+  module _ {k : ℕ} (e : k ≡ tableNumber concur l) (z : k ≡ 0) where
+    -- by the slice's length
+    pub beside-long : (long ≡ due → ⊥) → 2 ≡ answerBeside long due l call
+    unfolding answerBeside
+    beside-long ne = rw (sym e ∙ z, ne-eqb long due ne)
+
+    module _ (fits : long ≡ due) where
+      same-call : tableAnswer concur l call ≡ answerBeside long due l call
+      unfolding answerBeside tableAnswer
+      same-call = rw (eq-eqb long due fits)
+
+      same-table : tableAfter concur l call ≡ afterBeside long due l call
+      unfolding afterBeside tableAfter
+      same-table = rw same-call
+
+      pub beside-number : {number : ℕ} {exit : List ℕ} → Answered (words l 0) l call number exit → number ≡ answerBeside long due l call
+      beside-number {number} {exit} h = call-number l exit call e z h ∙ same-call
+
+      pub beside-table : {number : ℕ} {exit : List ℕ} → Answered (words l 0) l call number exit → exit ≡ afterBeside long due l call
+      beside-table {number} {exit} h = call-table l exit call e z h ∙ same-table
+
+-- What is handed out.
+given : (w : Value) (v : Option Value) → some w ≡ v → (1 ∷ listed valueSize w) ≡ returnedWords v
+unfolding returnedWords
+given w v e = ap returnedWords e
+
+nothing : (v : Option Value) → none ≡ v → (0 ∷ listed valueSize zeroValue) ≡ returnedWords v
+unfolding returnedWords
+nothing v e = ap returnedWords e
+
+pub handed : (r : Outcome) (v : Option Value) → returnedIn r ≡ v → (r .returned ≡ false → valueOf (words (r .value)) ≡ zeroValue)
+    → (cond (r .returned) 1 0 ∷ listed valueSize (valueOf (words (r .value)))) ≡ returnedWords v
+unfolding returnedIn
+handed r v e blank = on (r .returned)
+    (λ p. rw p (given (valueOf (words (r .value))) v (rw p at e)))
+    (λ p. rw (p, blank p) (nothing v (rw p at e)))
+
+module _ (returned l : List ℕ) (call : Call) where
+  pub returned-kept : {k : ℕ} → k ≡ answerBeside (length returned) returnedSize l call → (k ≡ 0 → ⊥) → returned ≡ returnedAfter returned l call
+  unfolding returnedAfter
+  returned-kept {k} e ne = rw (← e, ne-eqb k 0 ne)
+
+  pub returned-written : 0 ≡ answerBeside (length returned) returnedSize l call → {written : List ℕ} → written ≡ returnedWords (tableReturns concur l call)
+      → written ≡ returnedAfter returned l call
+  unfolding returnedAfter
+  returned-written e h = rw (← e) h
+
+-- the nine words, as they are written one after the other
+pub handed-words : (r exit value : List ℕ) (first : ℕ) → length r ≡ returnedSize → length exit ≡ length r
+    → words exit ≡ pasted 1 valueSize (words value) (words (set r 0 first)) → exit ≡ first ∷ listed valueSize (valueOf (words value))
+unfolding valueOf tabulate
+handed-words r exit value first long same h =
+    let w = words exit in
+    sym (tabulate-of returnedSize exit (same ∙ long))
+    ∙ sym (tabulate-join 1 valueSize w)
+    ∙ (λ t. head t ∷ tail t)
+  where
+    old : ℕ → ℕ
+    old = words (set r 0 first)
+
+    head : words exit 0 ≡ first
+    head = ap (λ w. w 0) h ∙ pasted-below 1 valueSize (words value) old 0 (omega arith)
+        ∙ ap (λ w. w 0) (words-set r 0 first (omega (arith, long))) ∙ put-at (words r) 0 first
+
+    tail : tabulate valueSize (from (words exit) 1) ≡ listed valueSize (numbered 8 0 (words value))
+    tail = tabulate-same valueSize (from (words exit) 1) (λ i. numbered 8 0 (words value) (i + 1)) (λ i p.
+        ap (λ w. from w 1 i) h ∙ from-pasted-at 1 valueSize (words value) old i p ∙ sym (numbered-at 8 0 (words value) i p))
+
+-- a value that was read from the start of its slice
+pub from-start : (w : ℕ → ℕ) → valueOf (from w 0) ≡ valueOf w
+unfolding from
+from-start w = valueOf-same (λ i. w (0 + i)) w (λ i p. let e : 0 + i ≡ i = omega arith in ap w e)
+
+pub same-value : (n : ℕ) (l : List ℕ) (i r t : ℕ) {v w : Value} {k : ℕ} {exit : List ℕ} → v ≡ w → Answered n l (begin i r t v) k exit → Answered n l (begin i r t w) k exit
+same-value n l i r t e h = rw (← e) h

@@ -1,0 +1,169 @@
+-- What passes between the halves when a submit or a commit is delivered.
+use Prim.Native.Nat.{ℕ}
+use mathlib.Core.Path.{_≡_, sym, ap, _∙_}
+use mathlib.Core.Bool.{Bool}
+use mathlib.Core.List.{List}
+use Rattle.lists.specs.Functions.{put, from, numbered}
+use Rattle.lists.proofs.Functions.{numbered-blank}
+use lib.ListN.{length, replicate}
+use Rattle.lists.specs.Parts.{words}
+use Rattle.lists.proofs.Parts.{words-zeros}
+use Rattle.model.specs.Records.{Rec, zeroValue, recordWithin}
+use Rattle.model.specs.RecordWords.{valueOf}
+use Rattle.model.specs.Kinds.{concur}
+use Rattle.model.specs.Member.{Member, answered, judged, returnedBy}
+use Rattle.model.specs.Host.{Entry, submitted, wins, entryAfter, storedAfter}
+use Rattle.model.specs.Board.{Board, withMember, submitTaken, sentRecord, commitTaken}
+use Rattle.model.specs.Table.{blockAt, entryAt, firstAt, newestAt, storedAt, memberOf, entryOf, storedOf, hostOf, storedRecordsOf, boardOf}
+use Rattle.laws.proofs.Records.{within-read}
+use Rattle.laws.proofs.Tables.{member-at, entry-at, stored-at}
+use Rattle.member.specs.Needs.{Within}
+use Rattle.member.specs.Results.{Taken}
+use Rattle.member.specs.declared.Outcome.{Outcome}
+use Rattle.board.specs.Needs.{Left}
+use Rattle.board.proofs.Lent.{part, back, BlockLent, HostLent, block-lent, member-lent, block-left, host-table, host-changed, entries-lent, stored-lent}
+
+-- the record that a block's member sends
+sent-read : (n i : ℕ) (v : ℕ → ℕ) → recordWithin n (sentRecord i (memberOf n v)) ≡ sentRecord i (memberOf n v)
+unfolding recordWithin sentRecord memberOf
+sent-read n i v = λ t. record {
+  member = i;
+  slot = memberOf n v .slot;
+  operation = memberOf n v .operation;
+  count = memberOf n v .own (memberOf n v .slot);
+  value = within-read n (from v (firstAt n)) t .value;
+  matrix = within-read n (from v (firstAt n)) t .matrix;
+}
+
+-- The records of a table have no count past the first n.
+module _ (n : ℕ) (w : ℕ → ℕ) where
+  pub newest-within : (r : ℕ) → Within n r → recordWithin n (boardOf n w .host r .newest) ≡ boardOf n w .host r .newest
+  unfolding entryOf
+  newest-within r h =
+      let e = entry-at n w r (h .least) (h .most) in
+      ap (λ e. recordWithin n (e .newest)) e
+      ∙ within-read n (from (from w (entryAt n r)) (newestAt n))
+      ∙ sym (ap (λ e. e .newest) e)
+
+  pub stored-within : (r : ℕ) → Within n r → recordWithin n (boardOf n w .stored r) ≡ boardOf n w .stored r
+  unfolding storedOf
+  stored-within r h =
+      let e = stored-at n w r (h .least) (h .most) in
+      ap (recordWithin n) e ∙ within-read n (from (from w (entryAt n r)) storedAt) ∙ sym e
+
+  pub sent-within : (i : ℕ) → Within n i → recordWithin n (sentRecord i (boardOf n w .members i)) ≡ sentRecord i (boardOf n w .members i)
+  sent-within i h =
+      let e = member-at n w i (h .least) (h .most) in
+      ap (λ m. recordWithin n (sentRecord i m)) e ∙ sent-read n i (from w (blockAt n i)) ∙ sym (ap (sentRecord i) e)
+
+module _ (b : Board) (i : ℕ) (after : Board) (p : Member) where
+  abbrev m : Member
+  m = b .members i
+
+  -- the host's entries after a submit and the member's state after the reply are the board's
+  pub submit-joins : after ≡ record { members = b .members; host = put (b .host) (m .slot) (submitted (b .host (m .slot)) i (m .own (m .slot))); stored = b .stored }
+      → p ≡ answered m (b .host (m .slot) .newest) (b .stored (m .slot))
+      → withMember after i p ≡ submitTaken b i
+  unfolding withMember submitTaken
+  submit-joins e f = rw (e, f)
+
+  -- and after a commit and its verdict
+  pub commit-joins : (won : Bool)
+      → after ≡ record {
+        members = b .members;
+        host = put (b .host) (m .slot) (entryAfter (b .host (m .slot)) (sentRecord i m));
+        stored = put (b .stored) (m .slot) (storedAfter concur (b .host (m .slot)) (b .stored (m .slot)) (sentRecord i m));
+      }
+      → p ≡ judged m won → won ≡ wins (b .host (m .slot)) (sentRecord i m)
+      → withMember after i p ≡ commitTaken concur b i
+  unfolding withMember commitTaken
+  commit-joins won e f g = rw (e, f, g)
+
+-- a result told of equal members
+pub taken-of : {r : Outcome} {m m′ : Member} (won : Bool) → m ≡ m′ → Taken r (returnedBy m won) → Taken r (returnedBy m′ won)
+taken-of won e h = rw (← e) h
+
+pub zero-value : valueOf (words (replicate 8 0)) ≡ zeroValue
+unfolding valueOf zeroValue
+zero-value = ap (numbered 8 0) (words-zeros 8) ∙ numbered-blank 8 0
+
+-- Member i's block and the host entries, lent in turn: l after the host, l after the member.
+module _ {n i at size hostStart hostWords : ℕ} {l : List ℕ} (h : BlockLent n i l at size) (t : HostLent n l hostStart hostWords)
+    (running : Within n (boardOf n (words l) .members i .slot)) (p : List ℕ) (kept : length p ≡ length (part l hostStart hostWords)) where
+  abbrev before : Board
+  before = boardOf n (words l)
+
+  abbrev entries : ℕ → Entry
+  entries = hostOf n (words (part l hostStart hostWords))
+
+  abbrev storeds : ℕ → Rec
+  storeds = storedRecordsOf n (words (part l hostStart hostWords))
+
+  abbrev middle : List ℕ
+  middle = back l hostStart hostWords p
+
+  -- the block is lent from the table that the host left
+  pub lent-again : BlockLent n i middle at size
+  lent-again = block-lent (host-table t p kept) (h .member) (h .place) (h .sized)
+
+  same-member : memberOf n (words (part middle at size)) ≡ before .members i
+  same-member = member-lent lent-again ∙ ap (λ b. b .members i) (host-changed t p kept)
+
+  joined : (host : ℕ → Entry) (stored : ℕ → Rec) → hostOf n (words p) ≡ host → storedRecordsOf n (words p) ≡ stored
+      → boardOf n (words middle) ≡ record { members = before .members; host = host; stored = stored }
+  joined host stored e f = host-changed t p kept ∙ (λ s. record { members = before .members; host = e s; stored = f s })
+
+  module _ (q : List ℕ) (same : length q ≡ length (part middle at size)) where
+    pub submit-left : (slot count : ℕ) (newest stored : Rec) → slot ≡ before .members i .slot
+        → count ≡ before .members i .own (before .members i .slot)
+        → newest ≡ entries slot .newest → stored ≡ storeds slot
+        → hostOf n (words p) ≡ put entries slot (submitted (entries slot) i count) → storedRecordsOf n (words p) ≡ storeds
+        → memberOf n (words q) ≡ answered (memberOf n (words (part middle at size))) (recordWithin n newest) (recordWithin n stored)
+        → Left n (submitTaken before i) (back middle at size q)
+    submit-left slot count newest stored a b c d e f g =
+        let m = before .members i in
+        let r = m .slot in
+        let newestIs = c ∙ ap (λ f. f slot .newest) (entries-lent t) ∙ ap (λ r. before .host r .newest) a in
+        let storedIs = d ∙ ap (λ f. f slot) (stored-lent t) ∙ ap (before .stored) a in
+        block-left lent-again q same (submit-joins before i (boardOf n (words middle)) (memberOf n (words q))
+        (joined (put (before .host) r (submitted (before .host r) i (m .own r))) (before .stored)
+        (e
+        ∙ ap (λ f. put f slot (submitted (f slot) i count)) (entries-lent t)
+        ∙ ap (λ r. put (before .host) r (submitted (before .host r) i count)) a
+        ∙ ap (λ k. put (before .host) r (submitted (before .host r) i k)) b)
+        (f ∙ stored-lent t))
+        (g
+        ∙ ap (λ m. answered m (recordWithin n newest) (recordWithin n stored)) same-member
+        ∙ ap (λ k. answered m k (recordWithin n stored)) (ap (recordWithin n) newestIs ∙ newest-within n (words l) r running)
+        ∙ ap (answered m (before .host r .newest)) (ap (recordWithin n) storedIs ∙ stored-within n (words l) r running)))
+
+    pub commit-left : (slot : ℕ) (sent : Rec) (won : Bool) → sent ≡ sentRecord i (memberOf n (words (part l at size))) → slot ≡ sent .slot
+        → won ≡ wins (entries slot) sent
+        → hostOf n (words p) ≡ put entries slot (entryAfter (entries slot) (recordWithin n sent))
+        → storedRecordsOf n (words p) ≡ put storeds slot (storedAfter concur (entries slot) (storeds slot) (recordWithin n sent))
+        → memberOf n (words q) ≡ judged (memberOf n (words (part middle at size))) won
+        → Left n (commitTaken concur before i) (back middle at size q)
+    unfolding sentRecord
+    commit-left slot sent won a b c d e f =
+        let m = before .members i in
+        let r = m .slot in
+        let sentIs : sent ≡ sentRecord i m = a ∙ ap (sentRecord i) (member-lent h) in
+        let slotIs : slot ≡ r = b ∙ ap (λ c. c .slot) sentIs in
+        let within : recordWithin n sent ≡ sentRecord i m = ap (recordWithin n) sentIs ∙ sent-within n (words l) i (h .member) in
+        block-left lent-again q same (commit-joins before i (boardOf n (words middle)) (memberOf n (words q)) won
+        (joined (put (before .host) r (entryAfter (before .host r) (sentRecord i m)))
+        (put (before .stored) r (storedAfter concur (before .host r) (before .stored r) (sentRecord i m)))
+        (d
+        ∙ ap (λ f. put f slot (entryAfter (f slot) (recordWithin n sent))) (entries-lent t)
+        ∙ ap (λ r. put (before .host) r (entryAfter (before .host r) (recordWithin n sent))) slotIs
+        ∙ ap (λ c. put (before .host) r (entryAfter (before .host r) c)) within)
+        (e
+        ∙ ap (λ f. put storeds slot (storedAfter concur (f slot) (storeds slot) (recordWithin n sent))) (entries-lent t)
+        ∙ ap (λ g. put g slot (storedAfter concur (before .host slot) (g slot) (recordWithin n sent))) (stored-lent t)
+        ∙ ap (λ r. put (before .stored) r (storedAfter concur (before .host r) (before .stored r) (recordWithin n sent))) slotIs
+        ∙ ap (λ c. put (before .stored) r (storedAfter concur (before .host r) (before .stored r) c)) within))
+        (f ∙ ap (λ m. judged m won) same-member)
+        (c
+        ∙ ap (λ f. wins (f slot) sent) (entries-lent t)
+        ∙ ap (λ r. wins (before .host r) sent) slotIs
+        ∙ ap (wins (before .host r)) sentIs))

@@ -1,0 +1,65 @@
+-- The numbers of the table's own check, ground by ground.
+use Prim.Native.Nat.{ℕ, _+_}
+use native.Mathlib.Omega.{arith}
+use mathlib.Core.Path.{_≡_, refl, sym, ap, _∙_}
+use mathlib.Core.Bool.{Bool, true, false}
+use mathlib.Core.List.{List}
+use lib.Dec.{eqb}
+use lib.ListN.{length, List·getD-eq-default}
+use Rattle.lists.specs.Functions.{inside, each}
+use Rattle.lists.specs.Parts.{words}
+use Rattle.lists.proofs.Functions.{within-at, inside-low, inside-high}
+use Rattle.model.specs.Kinds.{concur}
+use Rattle.model.specs.Table.{tableSize, blockAt, phaseAt, boardOf, tableNumber, soundMember, soundHost, soundBoard}
+use Rattle.model.specs.TableCalls.{phaseWords}
+use Rattle.member.specs.Needs.{Within}
+use Rattle.board.specs.Needs.{Table}
+
+-- the check of member i's block in the table
+abbrev pub soundAt : ℕ → List ℕ → ℕ → Bool
+soundAt n l i = soundMember concur n i (boardOf n (words l) .members i)
+
+abbrev pub soundEntries : ℕ → List ℕ → Bool
+soundEntries n l = soundHost n (boardOf n (words l) .host) (boardOf n (words l) .stored)
+
+module _ (l : List ℕ) where
+  abbrev n : ℕ
+  n = words l 0
+
+  pub size-refused : inside 12 n ≡ false → 3 ≡ tableNumber concur l
+  unfolding tableNumber
+  size-refused p = rw p
+
+  pub empty-refused : length l ≡ 0 → 3 ≡ tableNumber concur l
+  unfolding inside
+  empty-refused e = size-refused (ap (inside 12) (List·getD-eq-default l 0 (omega (arith, e))))
+
+  module _ (p : inside 12 n ≡ true) where
+    pub length-refused : eqb (length l) (tableSize n) ≡ false → 2 ≡ tableNumber concur l
+    unfolding tableNumber
+    length-refused q = rw (p, q)
+
+    module _ (q : eqb (length l) (tableSize n) ≡ true) where
+      pub blocks-refused : each n (soundAt n l) ≡ false → 3 ≡ tableNumber concur l
+      unfolding tableNumber soundBoard
+      blocks-refused r = rw (p, q, r)
+
+      pub host-refused : each n (soundAt n l) ≡ true → soundEntries n l ≡ false → 3 ≡ tableNumber concur l
+      unfolding tableNumber soundBoard
+      host-refused r s = rw (p, q, r, s)
+
+      pub none-refused : each n (soundAt n l) ≡ true → soundEntries n l ≡ true → 0 ≡ tableNumber concur l
+      unfolding tableNumber soundBoard
+      none-refused r s = rw (p, q, r, s)
+
+-- a table of the right size and length
+pub table-of : (l : List ℕ) → inside 12 (words l 0) ≡ true → length l ≡ tableSize (words l 0) → Table (words l 0) l
+table-of l p q = record { least = inside-low 12 (words l 0) p; most = inside-high 12 (words l 0) p; long = q; size = refl }
+
+-- a member's phase as it stands in the words
+pub phase-at : {n i : ℕ} {l : List ℕ} → Table n l → Within n i → words l (blockAt n i) ≡ phaseWords l i
+unfolding phaseWords
+phase-at {n} {i} {l} t h =
+    rw (t .size)
+    (ap (words l) (let e : blockAt n i ≡ blockAt n i + phaseAt = omega arith in e)
+    ∙ sym (within-at n 0 (λ k. words l (blockAt n k + phaseAt)) i (h .least) (h .most)))

@@ -1,0 +1,110 @@
+use borrow.Author.Needs.{needs}
+use mathlib.Core.Path.{sym, ap, _∙_}
+use native.Mathlib.Omega.{arith}
+use Rattle.lists.specs.Parts.{words}
+use Rattle.model.specs.Kinds.{concur}
+use Rattle.model.specs.Runs.{begin, answerOf, done}
+use Rattle.member.proofs.Tests.{refused, allowed}
+use Rattle.board.proofs.Lent.{block-lent, whole-block, member-lent, step-left}
+use Rattle.board.proofs.Answers.{within, refuses, takes, no-begin, count-room}
+use Rattle.model.specs.RecordWords.{valueOf}
+use Rattle.model.specs.Numbers.{beginAnswer}
+use Rattle.model.specs.Member.{begun}
+use Rattle.model.specs.Board.{boardBegun}
+use Rattle.model.proofs.Answers.{begin-taken}
+use Rattle.board.proofs.calls.begin_on.Statement.{statement}
+use Rattle.board.proofs.calls.begin_on.Tie as tie
+
+is-numbered-requires : tie.Need-is-numbered-requires
+is-numbered-requires c κs = search needs
+
+returns : tie.Need-returns
+returns c = let a = (c .before .before .before .args) in refuses (a .n) (a .table .now) (begin (a .member) (a .slot) (a .operation) (valueOf (words (a .value)))) 4 ((c .before .before .before .pre)) (no-begin (a .n) _ (a .member) _ _ _ (refused (c .before .is-numbered .ensures) (c .if1 .taken))) (λ e. omega arith)
+
+block-at-requires : tie.Need-block-at-requires
+block-at-requires c κs = let w = within _ _ (allowed (c .before .is-numbered .ensures) (c .if1 .left)) in (c .before .before .before .pre .most, (w .least, w .most))
+
+block-size-requires : tie.Need-block-size-requires
+block-size-requires c κs = search needs
+
+add-end : tie.Need-add-end
+add-end c = search needs
+
+mul-begin-refusal : tie.Need-mul-begin-refusal
+mul-begin-refusal c = search needs
+
+sub-begin-refusal : tie.Need-sub-begin-refusal
+sub-begin-refusal c = search needs
+
+part-begin-refusal-start : tie.Need-part-begin-refusal-start
+part-begin-refusal-start c = search needs
+
+part-begin-refusal-end : tie.Need-part-begin-refusal-end
+part-begin-refusal-end c = search needs
+
+begin-refusal-requires : tie.Need-begin-refusal-requires
+begin-refusal-requires c κs = whole-block (block-lent ((c .before .before .before .before .before .before .before .pre)) (within _ _ (allowed (c .before .before .before .before .before .is-numbered .ensures) (c .before .before .before .before .if1 .left))) (c .before .before .before .block-at .ensures) (c .before .before .block-size .ensures))
+
+same-length : tie.Need-same-length
+same-length c = search needs
+
+returns-2 : tie.Need-returns-2
+unfolding answerOf
+returns-2 c =
+    let a = (c .before .before .before .before .before .before .before .before .before .args) in
+    refuses (a .n) (a .table .now) (begin (a .member) (a .slot) (a .operation) (valueOf (words (a .value)))) (c .before .begin-refusal .result) ((c .before .before .before .before .before .before .before .before .before .pre))
+    (c .before .begin-refusal .ensures ∙ ap (λ m. beginAnswer concur (a .n) (m .phase) (m .crashed) (m .own (a .slot)) (a .member) (a .slot) (a .operation)) (member-lent (block-lent ((c .before .before .before .before .before .before .before .before .before .pre)) (within _ _ (allowed (c .before .before .before .before .before .before .before .is-numbered .ensures) (c .before .before .before .before .before .before .if1 .left))) (c .before .before .before .before .before .block-at .ensures) (c .before .before .before .before .block-size .ensures))))
+    (c .if2 .taken)
+
+mul-begin : tie.Need-mul-begin
+mul-begin c = search needs
+
+sub-begin : tie.Need-sub-begin
+sub-begin c = search needs
+
+part-begin-start : tie.Need-part-begin-start
+part-begin-start c = search needs
+
+part-begin-end : tie.Need-part-begin-end
+part-begin-end c = search needs
+
+begin-requires : tie.Need-begin-requires
+begin-requires c κs =
+    let k = begin-taken concur _ _ _ _ _ _ _ (sym (c .before .before .begin-refusal .ensures) ∙ c .before .if2 .left) in
+    (whole-block (block-lent ((c .before .before .before .before .before .before .before .before .before .before .pre)) (within _ _ (allowed (c .before .before .before .before .before .before .before .before .is-numbered .ensures) (c .before .before .before .before .before .before .before .if1 .left))) (c .before .before .before .before .before .before .block-at .ensures) (c .before .before .before .before .before .block-size .ensures)), (within _ _ (k .slot), count-room (k .room)))
+
+same-length-2 : tie.Need-same-length-2
+same-length-2 c = search needs
+
+returns-3 : tie.Need-returns-3
+unfolding done boardBegun answerOf
+returns-3 c =
+    let a = (c .before .before .before .before .before .before .before .before .before .before .before .before .before .args) in
+    let h = block-lent ((c .before .before .before .before .before .before .before .before .before .before .before .before .before .pre)) (within _ _ (allowed (c .before .before .before .before .before .before .before .before .before .before .before .is-numbered .ensures) (c .before .before .before .before .before .before .before .before .before .before .if1 .left))) (c .before .before .before .before .before .before .before .before .before .block-at .ensures) (c .before .before .before .before .before .before .before .before .block-size .ensures) in
+    takes (a .n) (a .table .now) (begin (a .member) (a .slot) (a .operation) (valueOf (words (a .value)))) _
+    (sym (c .before .before .before .before .if2 .left) ∙ c .before .before .before .before .before .begin-refusal .ensures ∙ ap (λ m. beginAnswer concur (a .n) (m .phase) (m .crashed) (m .own (a .slot)) (a .member) (a .slot) (a .operation)) (member-lent h))
+    (step-left h (c .before .before .begin .last .0) (c .before .before .begin .kept .0) (λ m. begun m (a .slot) (a .operation) (valueOf (words (a .value)))) (c .before .before .begin .ensures))
+
+pub begin-on-spec : {M : Type 1} → statement M
+begin-on-spec =
+    tie.close
+    (tie.spec
+    is-numbered-requires
+    returns
+    block-at-requires
+    block-size-requires
+    add-end
+    mul-begin-refusal
+    sub-begin-refusal
+    part-begin-refusal-start
+    part-begin-refusal-end
+    begin-refusal-requires
+    same-length
+    returns-2
+    mul-begin
+    sub-begin
+    part-begin-start
+    part-begin-end
+    begin-requires
+    same-length-2
+    returns-3)

@@ -1,0 +1,52 @@
+use borrow.Author.Needs.{needs}
+use mathlib.Core.Path.{sym, _∙_}
+use Rattle.model.specs.Runs.{crash}
+use Rattle.board.proofs.Answers.{good, own-number, own-table, own-board, call-number, call-table, call-board, some-words}
+use Rattle.board.proofs.crash.Statement.{statement}
+use Rattle.board.proofs.crash.Tie as tie
+
+table-number-requires : tie.Need-table-number-requires
+table-number-requires c κs = search needs
+
+same-length : tie.Need-same-length
+same-length c = search needs
+
+returns : tie.Need-returns
+returns c =
+    let a = (c .before .before .before .before .args) in
+    let l = a .table .now in
+    let k = c .before .table-number .result in
+    let e = c .before .table-number .ensures in
+    let ne = c .if1 .taken in
+    (own-number l (crash (a .member)) k e ne, (own-table l (crash (a .member)) k e ne, own-board l (crash (a .member)) k e ne))
+
+slice-read-n : tie.Need-slice-read-n
+slice-read-n c = some-words (c .before .before .before .before .before .args .table .now) (sym (c .before .before .table-number .ensures) ∙ c .before .if1 .left)
+
+crash-on-requires : tie.Need-crash-on-requires
+crash-on-requires c κs = good (c .before .before .before .before .before .before .args .table .now) (sym (c .before .before .before .table-number .ensures) ∙ c .before .before .if1 .left) .table
+
+same-length-2 : tie.Need-same-length-2
+same-length-2 c = search needs
+
+returns-2 : tie.Need-returns-2
+returns-2 c =
+    let a = (c .before .before .before .before .before .before .before .before .before .args) in
+    let l = a .table .now in
+    let e = c .before .before .before .before .before .before .table-number .ensures in
+    let z = c .before .before .before .before .before .if1 .left in
+    let exit = c .before .before .crash-on .last .0 in
+    let done = c .before .before .crash-on .ensures in
+    (call-number l exit (crash (a .member)) e z done, (call-table l exit (crash (a .member)) e z done, call-board l exit (crash (a .member)) e z done))
+
+pub crash-spec : {M : Type 1} → statement M
+crash-spec =
+    tie.close
+    (tie.spec
+    table-number-requires
+    same-length
+    returns
+    slice-read-n
+    crash-on-requires
+    same-length-2
+    returns-2)

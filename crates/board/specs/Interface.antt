@@ -1,0 +1,44 @@
+-- The C interface: a value and what is returned stand in slices, whose length is judged after the table's own numbers.
+use Prim.Native.Nat.{ℕ}
+use mathlib.Core.Bool.{cond, not}
+use mathlib.Core.List.{List, _∷_}
+use mathlib.Core.Option.{Option, none, some}
+use lib.Dec.{eqb}
+use lib.ListN.{length}
+use Rattle.lists.specs.Functions.{inside}
+use Rattle.lists.specs.Parts.{words, listed}
+use Rattle.model.specs.Kinds.{concur}
+use Rattle.model.specs.Records.{Value, zeroValue}
+use Rattle.model.specs.Runs.{Call, answerOf, done}
+use Rattle.model.specs.Table.{valueSize, tableSize, tableWords, tableNumber}
+use Rattle.model.specs.TableCalls.{boardIn, tableReturns}
+use Rattle.model.specs.Halves.{orElse, unlessRefused}
+
+-- how many words a table has: none where n is not 1 to 12
+unfoldable pub wordsFor : ℕ → ℕ
+wordsFor n = cond (inside 12 n) (tableSize n) 0
+
+-- a call with a slice beside the table, which is `long` where it should be `due` words: 3, 2, 3 of the table, 2 of the slice, the call's own
+unfoldable pub answerBeside : ℕ → ℕ → List ℕ → Call → ℕ
+answerBeside long due l call =
+    orElse (tableNumber concur l)
+    (cond (not (eqb long due)) 2
+    (answerOf concur (words l 0) (boardIn l) call))
+
+unfoldable pub afterBeside : ℕ → ℕ → List ℕ → Call → List ℕ
+afterBeside long due l call =
+    let n = words l 0 in
+    unlessRefused (answerBeside long due l call) l (tableWords n (done concur n (boardIn l) call))
+
+-- nine words: 1 and the value, or 0 and eight zeros
+unfoldable pub returnedWords : Option Value → List ℕ
+returnedWords none = 0 ∷ listed valueSize zeroValue
+returnedWords (some v) = 1 ∷ listed valueSize v
+
+abbrev pub returnedSize : ℕ
+returnedSize = 9
+
+-- the slice after a deliver: untouched on a refusal
+unfoldable pub returnedAfter : List ℕ → List ℕ → Call → List ℕ
+returnedAfter returned l call =
+    unlessRefused (answerBeside (length returned) returnedSize l call) returned (returnedWords (tableReturns concur l call))

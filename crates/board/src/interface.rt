@@ -1,0 +1,113 @@
+// The C interface: include/concur.h. A value stands in a slice of 8 words; what a deliver returns is written to one of 9.
+ghost use mathlib.Core.Path.{_≡_};
+ghost use mathlib.Core.Bool.{cond};
+ghost use mathlib.Core.List.{_∷_};
+ghost use lib.ListN.{length};
+ghost use Rattle.lists.specs.Parts.{words, listed};
+ghost use Rattle.model.specs.Kinds.{concur};
+ghost use Rattle.model.specs.RecordWords.{valueOf};
+ghost use Rattle.model.specs.Runs.{begin as beginCall, deliver as deliverCall, crash as crashCall};
+ghost use Rattle.model.specs.Table.{valueSize};
+ghost use Rattle.model.specs.TableCalls.{openNumber, openWords, tableAnswer, tableAfter};
+ghost use Rattle.board.specs.Interface.{wordsFor, answerBeside, afterBeside, returnedSize, returnedAfter};
+use crate::calls::begin_on;
+use crate::calls::deliver_on;
+use crate::check::table_number;
+use crate::crash;
+use crate::layout::table_size;
+use crate::open;
+use records::is_numbered;
+use records::steps::load_value;
+use records::steps::store_value;
+
+#[no_mangle]
+pub extern "C" fn concur_board_words(n: u32) -> u32
+    ensures { λ r. ⌜ r ≡ wordsFor n ⌝ }
+{
+    if !is_numbered(n, 12) {
+        return 0;
+    }
+    table_size(n as usize) as u32
+}
+
+#[no_mangle]
+pub extern "C" fn concur_board_open(table: &mut [u32], n: u32) -> u32
+    ensures { λ r. ⌜ r ≡ openNumber n (now (table .entry)) ⌝ }
+    ensures { λ _. ⌜ now (table .exit) ≡ openWords n (now (table .entry)) ⌝ }
+{
+    open(table, n)
+}
+
+#[no_mangle]
+pub extern "C" fn concur_board_begin(
+    table: &mut [u32],
+    member: u32,
+    slot: u32,
+    operation: u32,
+    value: &[u32],
+) -> u32
+    ensures { λ r. ⌜ r ≡ answerBeside (length (now (value .entry))) valueSize (now (table .entry)) (beginCall member slot operation (valueOf (words (now (value .entry))))) ⌝ }
+    ensures { λ _. ⌜ now (table .exit) ≡ afterBeside (length (now (value .entry))) valueSize (now (table .entry)) (beginCall member slot operation (valueOf (words (now (value .entry))))) ⌝ }
+{
+    let number = table_number(table);
+    if number != 0 {
+        return number;
+    }
+    if value.len() != 8 {
+        return 2;
+    }
+    let n = table[0];
+    begin_on(table, n, member, slot, operation, load_value(value, 0))
+}
+
+// 1 where a value is returned.
+fn flag(given: bool) -> u32
+    ensures { λ r. ⌜ r ≡ cond given 1 0 ⌝ }
+{
+    if given {
+        return 1;
+    }
+    0
+}
+
+// What was returned, written to nine words.
+fn hand_out(returned: &mut [u32], given: bool, value: [u32; 8])
+    requires { ⌜ length (now returned) ≡ returnedSize ⌝ }
+    ensures { λ _. ⌜ now (returned .exit) ≡ cond given 1 0 ∷ listed valueSize (valueOf (words value)) ⌝ }
+{
+    returned[0] = flag(given);
+    store_value(returned, 1, value);
+}
+
+#[no_mangle]
+pub extern "C" fn concur_board_deliver(table: &mut [u32], member: u32, returned: &mut [u32]) -> u32
+    ensures { λ r. ⌜ r ≡ answerBeside (length (now (returned .entry))) returnedSize (now (table .entry)) (deliverCall member) ⌝ }
+    ensures { λ _. ⌜ now (table .exit) ≡ afterBeside (length (now (returned .entry))) returnedSize (now (table .entry)) (deliverCall member) ⌝ }
+    ensures { λ _. ⌜ now (returned .exit) ≡ returnedAfter (now (returned .entry)) (now (table .entry)) (deliverCall member) ⌝ }
+{
+    let number = table_number(table);
+    if number != 0 {
+        return number;
+    }
+    if returned.len() != 9 {
+        return 2;
+    }
+    let n = table[0];
+    let done = deliver_on(table, n, member);
+    let number = done.number;
+    if number != 0 {
+        return number;
+    }
+    let given = done.returned;
+    let value = done.value;
+    hand_out(returned, given, value);
+    0
+}
+
+#[no_mangle]
+pub extern "C" fn concur_board_crash(table: &mut [u32], member: u32) -> u32
+    ensures { λ r. ⌜ r ≡ tableAnswer concur (now (table .entry)) (crashCall member) ⌝ }
+    ensures { λ _. ⌜ now (table .exit) ≡ tableAfter concur (now (table .entry)) (crashCall member) ⌝ }
+{
+    crash(table, member)
+}

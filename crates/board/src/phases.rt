@@ -1,0 +1,70 @@
+// Deliver, by phase: the parts of the table that the halves are lent, and what passes between them.
+ghost use Rattle.lists.specs.Parts.{words};
+ghost use Rattle.model.specs.Kinds.{concur};
+ghost use Rattle.model.specs.Board.{submitTaken, replyTaken, commitTaken, outcomeTaken};
+ghost use Rattle.model.specs.Member.{returnedBy};
+ghost use Rattle.model.specs.Table.{boardOf};
+ghost use Rattle.member.specs.Results.{Taken};
+ghost use Rattle.board.specs.Needs.{Turn, Left};
+use crate::layout::block_at;
+use crate::layout::host_at;
+use host::steps::commit;
+use host::steps::host_size;
+use host::steps::submit;
+use member::Outcome;
+use member::steps::answer;
+use member::steps::block_size;
+use member::steps::commit_of;
+use member::steps::finish;
+use member::steps::judge;
+use member::steps::reply_noted;
+use member::steps::submit_of;
+
+// Phase 1: the host takes the submit, and the member notes the reply.
+pub fn submit_taken(table: &mut [u32], n: usize, member: u32)
+    requires { ⌜ Turn n member (now table) ⌝ }
+    ensures { λ _. ⌜ Left n (submitTaken (boardOf n (words (now (table .entry)))) member) (now (table .exit)) ⌝ }
+{
+    let at = block_at(n, member as usize);
+    let end = at + block_size(n);
+    let host = host_at(n);
+    let last = host + host_size(n);
+    let sent = submit_of(&table[at..end], n);
+    let reply = submit(&mut table[host..last], n, member, sent.slot, sent.count);
+    answer(&mut table[at..end], n, reply.newest, reply.stored);
+}
+
+// Phase 2: the member makes its checks on the reply.
+pub fn reply_taken(table: &mut [u32], n: usize, member: u32)
+    requires { ⌜ Turn n member (now table) ⌝ }
+    ensures { λ _. ⌜ Left n (replyTaken n (boardOf n (words (now (table .entry)))) member) (now (table .exit)) ⌝ }
+{
+    let at = block_at(n, member as usize);
+    let end = at + block_size(n);
+    reply_noted(&mut table[at..end], n, member);
+}
+
+// Phase 3: the host takes the commit, and the member notes the verdict.
+pub fn commit_taken(table: &mut [u32], n: usize, member: u32)
+    requires { ⌜ Turn n member (now table) ⌝ }
+    ensures { λ _. ⌜ Left n (commitTaken concur (boardOf n (words (now (table .entry)))) member) (now (table .exit)) ⌝ }
+{
+    let at = block_at(n, member as usize);
+    let end = at + block_size(n);
+    let host = host_at(n);
+    let last = host + host_size(n);
+    let sent = commit_of(&table[at..end], n, member);
+    let won = commit(&mut table[host..last], n, sent);
+    judge(&mut table[at..end], n, won);
+}
+
+// Phases 4 and 5: the member takes the outcome.
+pub fn outcome_taken(table: &mut [u32], n: usize, member: u32, accepted: bool) -> Outcome
+    requires { ⌜ Turn n member (now table) ⌝ }
+    ensures { λ r. ⌜ Taken r (returnedBy (boardOf n (words (now (table .entry))) .members member) accepted) ⌝ }
+    ensures { λ r. ⌜ Left n (outcomeTaken (boardOf n (words (now (table .entry)))) member accepted) (now (table .exit)) ⌝ }
+{
+    let at = block_at(n, member as usize);
+    let end = at + block_size(n);
+    finish(&mut table[at..end], n, accepted)
+}

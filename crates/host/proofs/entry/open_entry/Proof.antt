@@ -1,0 +1,33 @@
+-- `open_entry` meets its contract. Assumes nothing.
+use borrow.Author.Needs.{needs}
+use Prim.Native.Nat.{ℕ}
+use mathlib.Core.Path.{_≡_, refl}
+use mathlib.Core.Bool.{true}
+use Rattle.model.specs.Records.{opening}
+use Rattle.model.specs.Kinds.{concur, becomesStored}
+use Rattle.model.specs.Board.{openingEntry}
+use Rattle.laws.proofs.Records.{within-opening}
+use Rattle.host.proofs.entry.open_entry.Statement.{statement}
+use Rattle.host.proofs.entry.open_entry.Tie as tie
+
+becomes-stored : (slot : ℕ) → becomesStored concur (opening slot) ≡ true
+unfolding becomesStored opening
+becomes-stored slot = refl
+
+opening-requires : tie.Need-opening-requires
+opening-requires c κs = search needs
+
+accept-requires : tie.Need-accept-requires
+accept-requires c κs = search needs
+
+same-length : tie.Need-same-length
+same-length c = search needs
+
+returns : tie.Need-returns
+unfolding openingEntry
+returns c =
+    let first = c .before .before .before .opening .ensures in
+    rw (first, within-opening, becomes-stored) at (c .before .before .accept .ensures)
+
+pub open-entry-spec : {M : Type 1} → statement M
+open-entry-spec = tie.close (tie.spec opening-requires accept-requires same-length returns)

@@ -1,0 +1,41 @@
+-- `begin_refusal` meets its contract. Assumes nothing.
+use borrow.Author.Needs.{needs}
+use mathlib.Core.Path.{ap, _∙_}
+use native.Mathlib.Omega.{arith}
+use Rattle.lists.specs.Parts.{words}
+use Rattle.model.specs.Kinds.{concur}
+use Rattle.model.specs.Numbers.{beginAnswer}
+use Rattle.model.specs.Table.{memberOf}
+use Rattle.member.proofs.Sizes.{head-room}
+use Rattle.member.proofs.steps.begin_refusal.Statement.{statement}
+use Rattle.member.proofs.steps.begin_refusal.Tie as tie
+
+own-count-requires : tie.Need-own-count-requires
+own-count-requires c κs = search needs
+
+shared-slice-read-begin-answer : tie.Need-shared-slice-read-begin-answer
+shared-slice-read-begin-answer c = omega (arith, head-room (c .before .before .before .args .n))
+
+shared-slice-read-begin-answer-2 : tie.Need-shared-slice-read-begin-answer-2
+shared-slice-read-begin-answer-2 c = omega (arith, head-room (c .before .before .before .before .args .n))
+
+begin-answer-requires : tie.Need-begin-answer-requires
+begin-answer-requires c κs = search needs
+
+returns : tie.Need-returns
+unfolding memberOf
+returns c =
+    let a = c .before .before .before .before .before .args in
+    let w = words (a .block .now) in
+    c .begin-answer .ensures
+    ∙ ap (λ count. beginAnswer concur (a .n) (w 0) (w 1) count (a .member) (a .slot) (a .operation)) (c .before .before .before .own-count .ensures)
+
+pub begin-refusal-spec : {M : Type 1} → statement M
+begin-refusal-spec =
+    tie.close
+    (tie.spec
+    own-count-requires
+    shared-slice-read-begin-answer
+    shared-slice-read-begin-answer-2
+    begin-answer-requires
+    returns)

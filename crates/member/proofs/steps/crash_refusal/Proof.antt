@@ -1,0 +1,29 @@
+-- `crash_refusal` meets its contract. Assumes nothing.
+use borrow.Author.Needs.{needs}
+use native.Mathlib.Omega.{arith}
+use Rattle.model.specs.Table.{memberOf}
+use Rattle.member.proofs.Sizes.{head-room}
+use Rattle.member.proofs.steps.crash_refusal.Statement.{statement}
+use Rattle.member.proofs.steps.crash_refusal.Tie as tie
+
+shared-slice-read-crash-answer : tie.Need-shared-slice-read-crash-answer
+shared-slice-read-crash-answer c = omega (arith, head-room (c .before .before .args .n))
+
+shared-slice-read-crash-answer-2 : tie.Need-shared-slice-read-crash-answer-2
+shared-slice-read-crash-answer-2 c = omega (arith, head-room (c .before .before .before .args .n))
+
+crash-answer-requires : tie.Need-crash-answer-requires
+crash-answer-requires c κs = search needs
+
+returns : tie.Need-returns
+unfolding memberOf
+returns c = c .crash-answer .ensures
+
+pub crash-refusal-spec : {M : Type 1} → statement M
+crash-refusal-spec =
+    tie.close
+    (tie.spec
+    shared-slice-read-crash-answer
+    shared-slice-read-crash-answer-2
+    crash-answer-requires
+    returns)

@@ -1,0 +1,29 @@
+-- `deliver_refusal` meets its contract. Assumes nothing.
+use borrow.Author.Needs.{needs}
+use native.Mathlib.Omega.{arith}
+use Rattle.model.specs.Table.{memberOf}
+use Rattle.member.proofs.Sizes.{head-room}
+use Rattle.member.proofs.steps.deliver_refusal.Statement.{statement}
+use Rattle.member.proofs.steps.deliver_refusal.Tie as tie
+
+shared-slice-read-deliver-answer : tie.Need-shared-slice-read-deliver-answer
+shared-slice-read-deliver-answer c = omega (arith, head-room (c .before .before .args .n))
+
+shared-slice-read-deliver-answer-2 : tie.Need-shared-slice-read-deliver-answer-2
+shared-slice-read-deliver-answer-2 c = omega (arith, head-room (c .before .before .before .args .n))
+
+deliver-answer-requires : tie.Need-deliver-answer-requires
+deliver-answer-requires c κs = search needs
+
+returns : tie.Need-returns
+unfolding memberOf
+returns c = c .deliver-answer .ensures
+
+pub deliver-refusal-spec : {M : Type 1} → statement M
+deliver-refusal-spec =
+    tie.close
+    (tie.spec
+    shared-slice-read-deliver-answer
+    shared-slice-read-deliver-answer-2
+    deliver-answer-requires
+    returns)

@@ -1,0 +1,116 @@
+// The parts of the member's steps, in place on its block.
+ghost use mathlib.Core.Path.{_≡_};
+ghost use mathlib.Core.Bool.{cond};
+ghost use Prim.Native.Nat.{_+_, _≤_};
+ghost use lib.Dec.{eqb};
+ghost use lib.ListN.{length};
+ghost use Rattle.lists.specs.Functions.{from};
+ghost use Rattle.lists.specs.Parts.{words};
+ghost use Rattle.model.specs.Records.{write, recordWithin};
+ghost use Rattle.model.specs.RecordWords.{valueOf};
+ghost use Rattle.model.specs.Member.{moved, passed, failed, dropped, tookOver};
+ghost use Rattle.model.specs.Table.{memberOf};
+ghost use Rattle.records.specs.Meaning.{recordIn};
+ghost use Rattle.member.specs.Needs.{Block, Within, Running};
+use crate::checks::joined_matrix;
+use crate::layout::HALT_AT;
+use crate::layout::OPERATION_AT;
+use crate::layout::OWN_AT;
+use crate::layout::PHASE_AT;
+use crate::layout::SLOT_AT;
+use crate::layout::layout;
+use records::Record;
+use records::WRITE;
+use records::steps::MATRIX_AT;
+use records::steps::clear;
+use records::steps::copy_down;
+use records::steps::load_matrix;
+use records::steps::load_value;
+use records::steps::record_size;
+use records::steps::store_record;
+
+// The value that an operation carries: the given one for a write, the last accepted own one, which lies at `last`, for a read.
+pub fn carried(block: &[u32], last: usize, operation: u32, value: [u32; 8]) -> [u32; 8]
+    requires { ⌜ last + 8 ≤ length (now block) ⌝ }
+    ensures { λ r. ⌜ valueOf (words r) ≡ cond (eqb operation write) (valueOf (words value)) (valueOf (from (words (now (block .entry))) last)) ⌝ }
+{
+    if operation == WRITE {
+        return value;
+    }
+    load_value(block, last)
+}
+
+// Both message records and the phase written.
+pub fn note(block: &mut [u32], n: usize, phase: u32, first: Record, second: Record)
+    requires { ⌜ Block n (now block) ⌝ }
+    ensures { λ _. ⌜ memberOf n (words (now (block .exit))) ≡ moved (memberOf n (words (now (block .entry)))) phase (memberOf n (words (now (block .entry))) .halt) (recordWithin n (recordIn first)) (recordWithin n (recordIn second)) ⌝ }
+{
+    let at = layout(n);
+    store_record(block, at.first, n, first);
+    store_record(block, at.second, n, second);
+    block[PHASE_AT] = phase;
+}
+
+// A reply that failed a check.
+pub fn fail(block: &mut [u32], n: usize, number: u32)
+    requires { ⌜ Block n (now block) ⌝ }
+    ensures { λ _. ⌜ memberOf n (words (now (block .exit))) ≡ failed (memberOf n (words (now (block .entry)))) number ⌝ }
+{
+    let at = layout(n);
+    let messages = 2 * record_size(n);
+    clear(block, at.first, messages);
+    block[PHASE_AT] = 6;
+    block[HALT_AT] = number;
+}
+
+// A reply that passed: the member's own record, phase 3.
+pub fn pass(block: &mut [u32], n: usize, member: u32, newest: Record, stored: Record)
+    requires { ⌜ (Running n (now block)) × (Within n member) ⌝ }
+    ensures { λ _. ⌜ memberOf n (words (now (block .exit))) ≡ passed n member (memberOf n (words (now (block .entry)))) (recordWithin n (recordIn newest)) (recordWithin n (recordIn stored)) ⌝ }
+{
+    let at = layout(n);
+    let slot = block[SLOT_AT];
+    let count = block[OWN_AT + (slot as usize) - 1];
+    let known = load_matrix(block, at.known, n);
+    let latest = newest.matrix;
+    let value = load_value(block, at.pending);
+    let matrix = joined_matrix(known, latest, n, member as usize, slot as usize, count);
+    let own = Record {
+        member,
+        slot,
+        operation: block[OPERATION_AT],
+        count,
+        value,
+        matrix,
+    };
+    note(block, n, 3, own, stored);
+}
+
+// The end of an operation of which nothing is taken over.
+pub fn drop(block: &mut [u32], n: usize)
+    requires { ⌜ Block n (now block) ⌝ }
+    ensures { λ _. ⌜ memberOf n (words (now (block .exit))) ≡ dropped (memberOf n (words (now (block .entry)))) ⌝ }
+{
+    let at = layout(n);
+    clear(block, at.pending, 8);
+    clear(block, at.first, 2 * record_size(n));
+    block[PHASE_AT] = 0;
+    block[SLOT_AT] = 0;
+    block[OPERATION_AT] = 0;
+}
+
+// What an accepted operation leaves the member: its matrix, its count and, for a write, its value.
+pub fn take_over(block: &mut [u32], n: usize)
+    requires { ⌜ Running n (now block) ⌝ }
+    ensures { λ _. ⌜ memberOf n (words (now (block .exit))) ≡ tookOver (memberOf n (words (now (block .entry)))) ⌝ }
+{
+    let at = layout(n);
+    let slot = block[SLOT_AT] as usize;
+    let operation = block[OPERATION_AT];
+    block[at.accepted + slot - 1] = block[OWN_AT + slot - 1];
+    copy_down(block, at.known, at.first + MATRIX_AT, n * n);
+    if operation != WRITE {
+        return;
+    }
+    copy_down(block, at.last, at.pending, 8);
+}

@@ -1,0 +1,32 @@
+-- `read_commit` meets its contract. Assumes nothing.
+use borrow.Author.Needs.{needs}
+use mathlib.Core.Path.{refl}
+use native.Mathlib.Omega.{arith}
+use Rattle.messages.specs.Meaning.{fieldsIn, fieldsOf}
+use Rattle.messages.proofs.reader.read_commit.Statement.{statement}
+use Rattle.messages.proofs.reader.read_commit.Tie as tie
+
+read-record-requires : tie.Need-read-record-requires
+read-record-requires c κs = (omega arith, omega arith)
+
+zero-requires : tie.Need-zero-requires
+zero-requires c κs = search needs
+
+returns : tie.Need-returns
+unfolding fieldsIn fieldsOf
+returns c = (
+  refl,
+  λ i. record {
+    kind = 3;
+    member = 0;
+    slot = 0;
+    operation = 0;
+    count = 0;
+    result = 0;
+    newest = c .before .read-record .ensures i;
+    stored = c .zero .ensures i;
+  },
+)
+
+pub read-commit-spec : {M : Type 1} → statement M
+read-commit-spec = tie.close (tie.spec read-record-requires zero-requires returns)

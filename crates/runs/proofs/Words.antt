@@ -1,0 +1,184 @@
+-- The worked cases on tables of words: a case that starts from an opened board holds of every table that opening took.
+-- Assumes nothing.
+use Prim.Native.Nat.{ℕ, zero, suc, _+_, _-_}
+use native.Mathlib.Omega.{arith}
+use mathlib.Core.Path.{_≡_, refl, sym, ap, _∙_, fun-ext}
+use mathlib.Core.Bool.{Bool, true, false, false≢true}
+use mathlib.Core.List.{List, [], _∷_, _++_}
+use lib.Dec.{eqb}
+use lib.ListN.{length}
+use borrow.Author.Tests.{eqb-true, eqb-false}
+use Rattle.lists.specs.Functions.{put, inside, numbered}
+use Rattle.lists.proofs.Functions.{on, inside-low, put-at, put-off}
+use Rattle.model.specs.Records.{zeroValue}
+use Rattle.model.specs.Kinds.{concur}
+use Rattle.model.specs.Board.{Board, opened}
+use Rattle.model.specs.Runs.{Call, Seen, begin, deliver, crash, after, run}
+use Rattle.model.specs.Demand3.{Every}
+use Rattle.model.specs.RecordWords.{valueOf}
+use Rattle.model.specs.Table.{tableWords}
+use Rattle.model.specs.TableCalls.{openNumber, openWords, boardIn, tableAfter, tableRun}
+use Rattle.runs.specs.Case.{Case, Claim, Question, left, answerTo, found, Holds, tableLeft, foundInWords, HoldsInWords, writes, reads, delivers, wholeWrite, wholeRead}
+use Rattle.runs.specs.Cases.{p1, p6, p7, p9, p11, refusals, seals, unsealed, alone, mended, contended, fromOpening}
+use Rattle.runs.proofs.Cases.{every-case}
+use Rattle.laws.proofs.Sound.{SoundBoard}
+use Rattle.runs.proofs.Sound.{opened-sound}
+use Rattle.runs.proofs.Held.{HeldBoard, ValueHeld, CallHeld, opened-held}
+use Rattle.runs.proofs.Tables.{board-in, same-after, after-sound, after-held, same-run, open-size}
+
+module _ (n : ℕ) (size : inside 12 n ≡ true) where
+  -- what a list of calls leaves of the table is what it leaves of the board
+  same-left : (b : Board) → SoundBoard concur n b → HeldBoard n b → (calls : List Call) → Every CallHeld calls
+      → boardIn (tableLeft (tableWords n b) calls) ≡ left n b calls
+  unfolding tableLeft left
+  same-left b s h [] v = board-in concur n size b h
+  same-left b s h (call ∷ calls) v =
+      ap (λ l. boardIn (tableLeft l calls)) (same-after concur n size b s h call)
+      ∙ same-left (after concur n b call) (after-sound concur n size b s call) (after-held concur n size b s h call (v .0)) calls (v .1)
+
+-- what is asked of the three things that were found to be equal
+same-answers : (n : ℕ) (calls : List Call) (claims : List Claim) (a b c d : Board) (s t : List Seen) → a ≡ b → c ≡ d → s ≡ t
+    → Every (λ q. answerTo n calls b d t (q .question) ≡ q .lines) claims
+    → Every (λ q. answerTo n calls a c s (q .question) ≡ q .lines) claims
+same-answers n calls claims a b c d s t p q r h = rw (p, q, r) h
+
+pub case-in-words : (c : Case) → c .start ≡ opened (c .n) → Every CallHeld (c .calls) → (l : List ℕ) → openNumber (c .n) l ≡ 0
+    → Holds c → HoldsInWords c (openWords (c .n) l)
+unfolding found foundInWords openWords
+case-in-words c e v l o h =
+    let n = c .n in
+    let size = open-size n l o in
+    rw o (same-answers n (c .calls) (c .claims)
+    (boardIn (tableWords n (opened n))) (c .start)
+    (boardIn (tableLeft (tableWords n (opened n)) (c .calls))) (left n (c .start) (c .calls))
+    (tableRun concur (tableWords n (opened n)) (c .calls)) (run concur n (c .start) (c .calls))
+    (board-in concur n size (opened n) (opened-held n) ∙ sym e)
+    (same-left n size (opened n) (opened-sound concur n) (opened-held n) (c .calls) v ∙ ap (λ b. left n b (c .calls)) (sym e))
+    (same-run concur n size (opened n) (opened-sound concur n) (opened-held n) (c .calls) v ∙ ap (λ b. run concur n b (c .calls)) (sym e))
+    h)
+
+-- The values of scripts have 8 words.
+
+-- a value that is zero outside 1 to 8
+value-held : (v : ℕ → ℕ) → ((k : ℕ) → inside 8 k ≡ false → v k ≡ 0) → ValueHeld v
+unfolding valueOf numbered
+value-held v off = fun-ext λ k. on (inside 8 k)
+    (λ p. let e : k - 1 + 1 ≡ k = omega (arith, inside-low 8 k p) in rw p (ap v e))
+    (λ p. rw p (sym (off k p)))
+
+pub zero-held : ValueHeld zeroValue
+unfolding zeroValue
+zero-held = value-held (λ k. 0) (λ k p. refl)
+
+pub last-held : (w : ℕ) → ValueHeld (put zeroValue 8 w)
+unfolding zeroValue inside
+last-held w = value-held (put zeroValue 8 w) (λ k p. on (eqb k 8)
+    (λ e. absurd (let d : k ≡ 8 = eqb-true k 8 e in false≢true (sym p ∙ ap (inside 8) d)))
+    (λ e. put-off zeroValue 8 w k (eqb-false k 8 e)))
+
+-- Lists of calls, one after the other.
+join : (xs ys : List Call) → Every CallHeld xs → Every CallHeld ys → Every CallHeld (xs ++ ys)
+join [] ys p q = q
+join (x ∷ xs) ys p q = (p .0, join xs ys (p .1) q)
+
+delivers-held : (i k : ℕ) → Every CallHeld (delivers i k)
+delivers-held i zero = tt
+delivers-held i (suc k) = (tt, delivers-held i k)
+
+write-held : (i v : ℕ) → Every CallHeld (wholeWrite i v)
+write-held i v = (last-held v, delivers-held i 4)
+
+read-held : (i r : ℕ) → Every CallHeld (wholeRead i r)
+read-held i r = (zero-held, delivers-held i 4)
+
+contended-held : Every CallHeld contended
+contended-held = (zero-held, (zero-held, (tt, (tt, (tt, (tt, tt))))))
+
+p6-held : (i j : ℕ) → Every CallHeld (contended ++ (deliver i ∷ deliver j ∷ []))
+p6-held i j = join contended (deliver i ∷ deliver j ∷ []) contended-held (tt, (tt, tt))
+
+p7-held : Every CallHeld (p7 .calls)
+p7-held = join (p6 .calls) ((deliver 1 ∷ deliver 2 ∷ []) ++ wholeWrite 2 5 ++ wholeRead 1 2) (p6-held 1 2)
+    (tt, (tt, join (wholeWrite 2 5) (wholeRead 1 2) (write-held 2 5) (read-held 1 2)))
+
+-- From an opened board, by calls whose values have 8 words.
+abbrev Opened : Case → Type 0
+Opened c = (c .start ≡ opened (c .n)) × Every CallHeld (c .calls)
+
+all-opened : Every Opened fromOpening
+all-opened = (
+  (refl, join (wholeWrite 1 77) (wholeRead 2 1) (write-held 1 77) (read-held 2 1)),
+  (
+    (refl, write-held 1 77),
+    (
+      (refl, join (wholeWrite 1 77) (reads 2 1 ∷ delivers 2 3) (write-held 1 77) (zero-held, delivers-held 2 3)),
+      (
+        (refl, (zero-held, tt)),
+        (
+          (refl, (last-held 77, (last-held 78, tt))),
+          (
+            (refl, p6-held 1 2),
+            (
+              (refl, p7-held),
+              (
+                (refl, join (p7 .calls) (wholeRead 1 3) p7-held (read-held 1 3)),
+                (
+                  (refl, (last-held 77, (tt, (tt, (tt, (tt, (tt, read-held 2 1))))))),
+                  (
+                    (refl, p6-held 2 1),
+                    (
+                      (refl, (zero-held, (tt, (tt, join (wholeRead 2 3) (wholeWrite 3 9 ++ (deliver 1 ∷ [])) (read-held 2 3) (join (wholeWrite 3 9) (deliver 1 ∷ []) (write-held 3 9) (tt, tt)))))),
+                      (
+                        (refl, (zero-held, (tt, (zero-held, (tt, (tt, join (delivers 2 3) (wholeRead 2 3) (delivers-held 2 3) (read-held 2 3))))))),
+                        (
+                          (
+                            refl,
+                            join (wholeWrite 1 77) (wholeRead 2 1 ++ wholeRead 3 1 ++ wholeRead 2 1) (write-held 1 77)
+                                (join (wholeRead 2 1) (wholeRead 3 1 ++ wholeRead 2 1) (read-held 2 1) (join (wholeRead 3 1) (wholeRead 2 1) (read-held 3 1) (read-held 2 1))),
+                          ),
+                          (
+                            (refl, join (wholeWrite 2 5) (wholeRead 2 1 ++ wholeRead 1 2) (write-held 2 5) (join (wholeRead 2 1) (wholeRead 1 2) (read-held 2 1) (read-held 1 2))),
+                            (
+                              (refl, write-held 1 77),
+                              (
+                                (refl, write-held 1 77),
+                                tt,
+                              ),
+                            ),
+                          ),
+                        ),
+                      ),
+                    ),
+                  ),
+                ),
+              ),
+            ),
+          ),
+        ),
+      ),
+    ),
+  ),
+)
+
+module _ {A : Type 0} (P : A → Type 0) where
+  behind : (xs ys : List A) → Every P (xs ++ ys) → Every P ys
+  behind [] ys h = h
+  behind (x ∷ xs) ys h = behind xs ys (h .1)
+
+  before : (xs ys : List A) → Every P (xs ++ ys) → Every P xs
+  before [] ys h = tt
+  before (x ∷ xs) ys h = (h .0, before xs ys (h .1))
+
+abbrev InWords : Case → Type 0
+InWords c = (l : List ℕ) → openNumber (c .n) l ≡ 0 → HoldsInWords c (openWords (c .n) l)
+
+each-in-words : (cs : List Case) → Every Opened cs → Every Holds cs → Every InWords cs
+each-in-words [] o h = tt
+each-in-words (c ∷ cs) o h = ((λ l n. case-in-words c (o .0 .0) (o .0 .1) l n (h .0)), each-in-words cs (o .1) (h .1))
+
+-- The cases P2 to P8, P10 and P12, and those against false programs, on whatever table of words opening took.
+pub every-case-in-words : Every InWords fromOpening
+every-case-in-words = each-in-words fromOpening all-opened (before Holds fromOpening rest (behind Holds p1 (fromOpening ++ rest) every-case))
+  where
+    rest : List Case
+    rest = (p9 ∷ p11 ∷ refusals ∷ seals ∷ unsealed ∷ []) ++ alone ++ mended

@@ -1,0 +1,68 @@
+/*
+ * The CONCUR member board, for C and C++ programs.
+ *
+ * Every call answers a number: 0 means done. Any other number means that the call was refused, and then all that was lent to it is as
+ * before. Where several grounds hold, the number is that of the first one that the call checks.
+ *
+ *   number  what was wrong
+ *   ------  ---------------------------------------------------------------------------------------------------------------
+ *        1  n, the number of members, is not 1 to 12
+ *        2  the table, or the part of it that was lent, has the wrong length
+ *        3  a word of the table is out of range: a phase above 6, a crash mark above 1, a halt number not 0 or 21 to 27, a slot or
+ *           member above n, a type above 2, the board's n not 1 to 12 (an empty table too), or a member in phase 1 to 5 whose slot
+ *           or type is 0 or such as 7 refuses
+ *        4  no such member
+ *        5  no such slot
+ *        6  the type is not 1 (read) or 2 (write)
+ *        7  a write to another member's slot, or a read of one's own
+ *        8  begin: the member is not in phase 0 (idle), or has crashed
+ *        9  begin: the member's count on this slot is spent (4,294,967,295)
+ *       10  deliver: nothing to deliver (phase 0 or 6), or the member has crashed and the message is for it; a half: it is in
+ *           another phase than the message needs, or has crashed
+ *       11  crash: the member has crashed already, or has halted
+ *       12  message: under 4 bytes, or its length field is not the number of bytes that follow it
+ *       13  message: the version is not 1
+ *       14  message: the kind is not 1 (submit), 2 (reply), 3 (commit) or 4 (outcome)
+ *       15  message: wrong length for its kind, wrong n, a member or slot not 1 to n, a type not 1 or 2, an outcome not 1 or 2; a
+ *           half: also a seals value above 3
+ *       16  message writer: the output is shorter than the message
+ *       17  script: a line of another form
+ *
+ * A halt is no refusal: the call answers 0, the member goes to phase 6 and takes nothing more, and its halt number says what it found in
+ * the reply of the host. Below, m is the member and r the slot of its operation; the newest and the stored record are the reply's.
+ *
+ *     halt  what the member found
+ *   ------  ---------------------------------------------------------------------------------------------------------------
+ *       21  a signature (seal) did not hold
+ *       22  the newest record is older than what m knows: in row r, some other member's count is below the known one
+ *       23  the newest record's count of m in row r is not m's accepted count
+ *       24  the stored record is not by the slot's owner
+ *       25  the stored record's matrix is not below the newest one's, or they differ in row r at r
+ *       26  in another row, what m knows and the newest record cannot be compared: the host has shown two histories
+ *       27  in another row, the newest record's count of m exceeds m's accepted count there
+ */
+#ifndef CONCUR_H
+#define CONCUR_H
+
+#include <stddef.h>
+#include <stdint.h>
+
+#ifdef __cplusplus
+extern "C" {
+#endif
+
+/* Messages: link target/staticlib/libmessages.a. */
+
+/*
+ * Would a board of n members take these bytes as a message? Answers 0, or 1, 12, 13, 14 or 15, which are checked in this order.
+ * `bytes` points to `length` bytes that nothing changes during the call; it is not NULL, even where `length` is 0.
+ */
+uint32_t concur_message_check(const uint8_t *bytes, size_t length, uint32_t n);
+
+/* The board. */
+
+#ifdef __cplusplus
+}
+#endif
+
+#endif
