@@ -41,7 +41,7 @@ module _ {A : Type 0} (n : ℕ) (d : A) where
       (λ p. within-at n d f k (inside-low n k p) (inside-high n k p))
       (λ p. within-off n d f k p ∙ sym (h k p))
 
-  pub within-put : (f : ℕ → A) (k : ℕ) (v : A) → inside n k ≡ true → within n d f ≡ f → within n d (put f k v) ≡ put f k v
+  within-put : (f : ℕ → A) (k : ℕ) (v : A) → inside n k ≡ true → within n d f ≡ f → within n d (put f k v) ≡ put f k v
   within-put f k v p h = blank-off (put f k v) (λ i q.
       put-off f k v i (λ e. apart (ap (inside n) e ∙ p) q) ∙ off-blank f h i q)
 

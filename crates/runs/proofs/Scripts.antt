@@ -6,11 +6,8 @@ use mathlib.Core.List.{List, [], _∷_, _++_}
 use mathlib.Core.Option.{Option, none, some}
 use lib.ListN.{take, length}
 use borrow.Author.Tests.{eq-eqb}
-use Rattle.lists.specs.Functions.{put, inside}
-use Rattle.lists.proofs.Functions.{within-blank, numbered-next, numbered-blank}
+use Rattle.lists.specs.Functions.{inside}
 use Rattle.model.specs.Kinds.{Kind}
-use Rattle.model.specs.Records.{zeroValue}
-use Rattle.model.specs.RecordWords.{valueOf}
 use Rattle.model.specs.Board.{opened}
 use Rattle.model.specs.Runs.{Call}
 use Rattle.model.specs.Demand3.{Every, Demand3}
@@ -19,7 +16,8 @@ use Rattle.model.specs.TableCalls.{openNumber, openWords, tableAfter, tableSeen
 use Rattle.model.specs.Script.{Line, writes, reads, delivers, crashes, malformed, lineOf, callOf, stepped, stepLine, stepsPrinted, boardLine, boardPrinted, linesPrinted, linesOf, firstOf, mostSteps, scriptOutput}
 use Rattle.laws.proofs.Tables.{length-table}
 use Rattle.runs.specs.Scripts.{withCall, callsOf, seenPrinted, seenBehind, linesSeen, StepsRun, ScriptRun}
-use Rattle.runs.proofs.Held.{CallHeld, ValueHeld, within-put}
+use Rattle.runs.proofs.Held.{CallHeld}
+use Rattle.runs.proofs.Words.{zero-held, last-held}
 use Rattle.runs.proofs.Tables.{demand3-on-tables}
 
 -- A line beside its call. On any table.
@@ -50,17 +48,9 @@ lines-seen kind step table (line ∷ lines) =
 
 -- The values of a script's calls have 8 words.
 
-zero-held : ValueHeld zeroValue
-unfolding zeroValue valueOf
-zero-held = numbered-blank 8 0
-
-word-held : (v : ℕ) → ValueHeld (put zeroValue 8 v)
-unfolding zeroValue valueOf inside
-word-held v = numbered-next 8 0 (put zeroValue 8 v) ∙ within-put 8 0 zeroValue 8 v refl (within-blank 8 0)
-
 with-held : (line : Line) (calls : List Call) → Every CallHeld calls → Every CallHeld (withCall (callOf line) calls)
 unfolding callOf withCall
-with-held (writes m v) calls h = (word-held v, h)
+with-held (writes m v) calls h = (last-held v, h)
 with-held (reads m r) calls h = (zero-held, h)
 with-held (delivers m) calls h = (tt, h)
 with-held (crashes m) calls h = (tt, h)
