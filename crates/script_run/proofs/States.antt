@@ -9,17 +9,19 @@ use mathlib.Core.Option.{Option, none, some}
 use lib.Dec.{eqb, ltb}
 use lib.ListN.{length, take, drop, set, length-append, length-drop}
 use lib.Seq.{take-append-seam, length-take-le, take-suc, take-suc-set}
-use borrow.Author.Tests.{eq-eqb, ne-eqb, lt-ltb, le-ltb}
+use borrow.Author.Tests.{eq-eqb, ne-eqb, eqb-true, eqb-false, lt-ltb, le-ltb}
 use Rattle.lists.specs.Functions.{inside}
 use Rattle.lists.specs.Parts.{words}
+use Rattle.lists.proofs.Functions.{on}
 use Rattle.model.specs.Kinds.{concur}
 use Rattle.model.specs.Board.{opened}
 use Rattle.model.specs.Table.{tableWords}
 use Rattle.model.specs.Script.{firstOf, boardLine, refusedLine, stepLine, mostSteps}
-use Rattle.script_run.specs.Feeding.{State, Fed, mostKept, overStep, keep, ended, firstRun, stepRun, lineRun, silent, byteFed, fed, lastPrinted}
-use Rattle.script_run.specs.Meaning.{Whole, stateOf, Ready, Wrote, Ran}
+use Rattle.script_run.specs.Feeding.{State, Fed, mostKept, overStep, start, keep, ended, firstRun, stepRun, lineRun, silent, byteFed, fed, lastPrinted}
+use Rattle.script_run.specs.Meaning.{Whole, stateOf, Ready, Wrote, Ran, Took}
 use Rattle.script_run.specs.declared.Progress.{Progress}
 use Rattle.script_run.specs.declared.Next.{Next}
+use Rattle.script_run.specs.declared.Fed.{Fed as FedStruct}
 use Rattle.script_run.proofs.Streams.{fed-append}
 use Rattle.script_run.proofs.Held.{wrote-front}
 
@@ -157,3 +159,29 @@ fed-more s bytes i p table kept out at next table′ kept′ out′ h room e r =
     ap (fed concur s) (ap (λ k. take k bytes) (add-one i) ∙ take-suc bytes i 0 h)
     ∙ fed-one s t (take i bytes) (take at out) (words bytes i) e
     ∙ (λ k. record { state = sym (r .state) k; printed = sym (wrote-front (r .wrote) room) k })
+
+-- A script that has not begun, or that is over, on lent words and bytes of the right lengths.
+
+pub start-ready : (table kept : List ℕ) → length table ≡ 9781 → length kept ≡ mostKept → Ready (record { step = 0; size = 0; kept = 0 }) table kept
+start-ready table kept l m = record { room = l; keeps = m; line = omega arith; size = omega arith; whole = λ a b. absurd (omega arith) }
+
+pub start-held : (table kept : List ℕ) → stateOf (record { step = 0; size = 0; kept = 0 }) table kept ≡ start
+unfolding stateOf start
+start-held table kept = refl
+
+pub over-ready : (p : Progress) (table kept : List ℕ) → Ready p table kept → Ready (record { step = overStep; size = 0; kept = 0 }) table kept
+over-ready p table kept r = record { room = r .room; keeps = r .keeps; line = omega arith; size = omega arith; whole = λ a b. absurd (omega arith) }
+
+-- Where there is room for a line, something is taken: nothing taken prints nothing.
+pub took-some : {p : Progress} {table kept bytes : List ℕ} {r : FedStruct} {table′ kept′ out : List ℕ} → Took p table kept bytes r table′ kept′ out
+    → (r .taken < length bytes → length out < r .written + 44) → 44 ≤ length out → 0 < length bytes → 0 < r .taken
+unfolding fed
+took-some {p} {table} {kept} {bytes} {r} {table′} {kept′} {out} t full room some-bytes = on (eqb (r .taken) 0)
+    (λ z. let none-taken : r .taken ≡ 0 = eqb-true (r .taken) 0 z in
+    let none-written : r .written ≡ 0 = sym (length-take-le (r .written) out (t .room)) ∙ ap (λ f. length (f .printed)) (sym (t .fed) ∙ ap (λ k. fed concur (stateOf p table kept) (take k bytes)) none-taken ∙ nothing (stateOf p table kept)) in
+    let less = full (omega arith) in
+    absurd (omega arith))
+    (λ z. let n : r .taken ≡ 0 → ⊥ = eqb-false (r .taken) 0 z in omega arith)
+  where
+    nothing : (s : State) → fed concur s [] ≡ silent s
+    nothing s = refl
