@@ -2,4 +2,5 @@ pub mod Cases
 pub mod Sound
 pub mod Held
 pub mod Tables
+pub mod Scripts
 pub mod Words

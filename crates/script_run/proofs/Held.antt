@@ -1,0 +1,220 @@
+-- Laws of how the code holds lines, calls and texts. Assumes nothing.
+use Prim.Native.Nat.{ℕ, suc, _+_, _-_, _≤_, _<_}
+use native.Mathlib.Omega.{arith}
+use mathlib.Core.Path.{_≡_, refl, sym, ap, _∙_}
+use mathlib.Core.Bool.{Bool, true, false, cond, not}
+use mathlib.Core.List.{List, [], _∷_, _++_}
+use mathlib.Core.Option.{Option, none, some}
+use lib.Dec.{eqb}
+use lib.ListN.{length, take, drop, replicate, take-append-drop}
+use lib.Seq.{take-append-add, take-append-seam, length-take-le}
+use borrow.Author.Tests.{eq-eqb, ne-eqb}
+use Rattle.lists.specs.Functions.{put, inside, numbered}
+use Rattle.lists.specs.Parts.{words, tabulate, replaced}
+use Rattle.lists.proofs.Functions.{on, inside-in, inside-low, inside-high}
+use Rattle.lists.proofs.Parts.{tabulate-at, words-zeros, length-replaced}
+use Rattle.model.specs.Kinds.{concur}
+use Rattle.model.specs.Records.{Value, zeroValue}
+use Rattle.model.specs.RecordWords.{valueOf}
+use Rattle.model.specs.Board.{Board, opened}
+use Rattle.model.specs.Runs.{Call, begin, deliver, crash, done, doneReturns}
+use Rattle.model.specs.Table.{tableSize, tableWords}
+use Rattle.model.specs.TableCalls.{openNumber, openWords, boardIn, tableAnswer, tableAfter, tableReturns, phaseWords}
+use Rattle.model.specs.Script.{Line, writes, reads, delivers, crashes, malformed, lineOf, callOf, caller, lastWord, printedLine, stepped, stepLine}
+use Rattle.laws.proofs.Records.{valueOf-same}
+use Rattle.laws.proofs.Tables.{length-table, table-zero}
+use Rattle.runs.proofs.Words.{zero-held, last-held}
+use Rattle.member.specs.declared.Outcome.{Outcome}
+use Rattle.member.specs.Results.{returnedIn}
+use Rattle.script.specs.declared.Line.{Line as LineStruct}
+use Rattle.script.specs.Meaning.{heldLine, given, Printed}
+use Rattle.board.specs.Needs.{Table}
+use Rattle.script_run.specs.Meaning.{Whole, callFor, Wrote}
+
+-- Lines.
+
+pub no-call : (l : Line) → heldLine l .kind ≡ 0 → callOf l ≡ none
+unfolding heldLine callOf
+no-call (writes m v) h = absurd (omega arith)
+no-call (reads m r) h = absurd (omega arith)
+no-call (delivers m) h = absurd (omega arith)
+no-call (crashes m) h = absurd (omega arith)
+no-call malformed h = refl
+
+some-call : (l : Line) → (heldLine l .kind ≡ 0 → ⊥) → callOf l ≡ some (callFor (heldLine l .kind) (heldLine l .member) (heldLine l .argument))
+unfolding heldLine callOf callFor
+some-call (writes m v) h = refl
+some-call (reads m r) h = refl
+some-call (delivers m) h = refl
+some-call (crashes m) h = refl
+some-call malformed h = absurd (h refl)
+
+caller-for : (kind m a : ℕ) → caller (callFor kind m a) ≡ m
+unfolding caller callFor
+caller-for kind m a = on (eqb kind 1)
+    (λ p. rw p)
+    (λ p. on (eqb kind 2)
+    (λ q. rw (p, q))
+    (λ q. on (eqb kind 3) (λ r. rw (p, q, r)) (λ r. rw (p, q, r))))
+
+-- Values.
+
+pub value-last : (v : ℕ) → valueOf (words (0 ∷ 0 ∷ 0 ∷ 0 ∷ 0 ∷ 0 ∷ 0 ∷ v ∷ [])) ≡ put zeroValue 8 v
+unfolding tabulate put zeroValue
+value-last v =
+    valueOf-same (words (0 ∷ 0 ∷ 0 ∷ 0 ∷ 0 ∷ 0 ∷ 0 ∷ v ∷ [])) (λ i. put zeroValue 8 v (i + 1)) (tabulate-at 8 (λ i. put zeroValue 8 v (i + 1)))
+    ∙ last-held v
+
+pub value-zero : valueOf (words (replicate 8 0)) ≡ zeroValue
+unfolding zeroValue
+value-zero = ap valueOf (words-zeros 8) ∙ zero-held
+
+last-word : (r : Outcome) → lastWord (returnedIn r) ≡ given (r .returned) (words (r .value) 7)
+unfolding lastWord returnedIn valueOf numbered inside
+last-word r = on (r .returned) (λ p. rw p) (λ p. rw p)
+
+nothing-returned : (r : Outcome) → r .returned ≡ false → returnedIn r ≡ none
+unfolding returnedIn
+nothing-returned r p = rw p
+
+-- The calls that the code makes: each returns no value but deliver.
+
+pub call-write : (kind m a : ℕ) → kind ≡ 1 → callFor kind m a ≡ begin m m 2 (valueOf (words (0 ∷ 0 ∷ 0 ∷ 0 ∷ 0 ∷ 0 ∷ 0 ∷ a ∷ [])))
+unfolding callFor
+call-write kind m a h = rw h (ap (begin m m 2) (sym (value-last a)))
+
+pub call-read : (kind m a : ℕ) → kind ≡ 2 → callFor kind m a ≡ begin m a 1 (valueOf (words (replicate 8 0)))
+unfolding callFor
+call-read kind m a h = rw h (ap (begin m a 1) (sym value-zero))
+
+pub call-deliver : (kind m a : ℕ) → kind ≡ 3 → callFor kind m a ≡ deliver m
+unfolding callFor
+call-deliver kind m a h = rw h
+
+pub call-crash : (kind m a : ℕ) → (kind ≡ 1 → ⊥) → (kind ≡ 2 → ⊥) → (kind ≡ 3 → ⊥) → callFor kind m a ≡ crash m
+unfolding callFor
+call-crash kind m a p q r = rw (ne-eqb kind 1 p, ne-eqb kind 2 q, ne-eqb kind 3 r)
+
+pub begin-silent : (m r t : ℕ) (v : Value) (b : Board) → doneReturns b (begin m r t v) ≡ none
+unfolding doneReturns
+begin-silent m r t v b = refl
+
+pub crash-silent : (m : ℕ) (b : Board) → doneReturns b (crash m) ≡ none
+unfolding doneReturns
+crash-silent m b = refl
+
+silent-returns : (l : List ℕ) (call : Call) → ((b : Board) → doneReturns b call ≡ none) → tableReturns concur l call ≡ none
+unfolding tableReturns
+silent-returns l call h = on (eqb (tableAnswer concur l call) 0) (λ p. rw p (h (boardIn l))) (λ p. rw p)
+
+pub call-plain : (l : List ℕ) (call made : Call) → call ≡ made → ((b : Board) → doneReturns b made ≡ none)
+    → (r : Outcome) (number : ℕ) (after : List ℕ) → (r .number ≡ number) × (r .returned ≡ false)
+    → number ≡ tableAnswer concur l made → after ≡ tableAfter concur l made
+    → (r .number ≡ tableAnswer concur l call) × ((returnedIn r ≡ tableReturns concur l call) × (after ≡ tableAfter concur l call))
+call-plain l call made e h r number after p a t = rw e
+    (p .0 ∙ a, (nothing-returned r (p .1) ∙ sym (silent-returns l made h), t))
+
+-- A step, by what its call answers.
+
+pub step-malformed : (step : ℕ) (table line : List ℕ) (read : LineStruct) → read ≡ heldLine (lineOf line) → read .kind ≡ 0
+    → stepLine concur step table line ≡ record { table = table; printed = printedLine step 17 none none }
+unfolding stepLine stepped
+step-malformed step table line read e k = rw (no-call (lineOf line) (ap (λ r. r .kind) (sym e) ∙ k))
+
+phase-given : (number phase : ℕ) → given (not (eqb number 4)) phase ≡ cond (eqb number 4) none (some phase)
+phase-given number phase = on (eqb number 4) (λ p. rw p) (λ p. rw p)
+
+step-called : (step : ℕ) (table line : List ℕ) (call : Call) → callOf (lineOf line) ≡ some call
+    → stepLine concur step table line ≡ record {
+      table = tableAfter concur table call;
+      printed = printedLine step (tableAnswer concur table call)
+          (cond (eqb (tableAnswer concur table call) 4) none (some (phaseWords (tableAfter concur table call) (caller call))))
+          (lastWord (tableReturns concur table call));
+    }
+unfolding stepLine stepped
+step-called step table line call e = rw e
+
+module _ (step : ℕ) (table line : List ℕ) (read : LineStruct) (e : read ≡ heldLine (lineOf line)) (k : read .kind ≡ 0 → ⊥) where
+  made : Call
+  made = callFor (read .kind) (read .member) (read .argument)
+
+  line-made : callOf (lineOf line) ≡ some made
+  unfolding made
+  line-made = some-call (lineOf line) (λ h. k (ap (λ r. r .kind) e ∙ h)) ∙ ap (λ r. some (callFor (r .kind) (r .member) (r .argument))) (sym e)
+
+  pub step-made : (done : Outcome) (after : List ℕ) (phase word : ℕ)
+      → done .number ≡ tableAnswer concur table (callFor (read .kind) (read .member) (read .argument))
+      → returnedIn done ≡ tableReturns concur table (callFor (read .kind) (read .member) (read .argument))
+      → after ≡ tableAfter concur table (callFor (read .kind) (read .member) (read .argument))
+      → phase ≡ phaseWords after (read .member)
+      → word ≡ words (done .value) 7
+      → stepLine concur step table line ≡ record {
+        table = after;
+        printed = printedLine step (done .number) (given (not (eqb (done .number) 4)) phase) (given (done .returned) word);
+      }
+  unfolding made
+  step-made done after phase word a r t p w =
+      step-called step table line made line-made
+      ∙ (λ i. record {
+        table = sym t i;
+        printed = printedLine step (sym a i)
+            ((ap (λ x. cond (eqb x 4) none (some (phaseWords (tableAfter concur table made) (caller made)))) (sym a)
+            ∙ ap (λ x. cond (eqb (done .number) 4) none (some x))
+            (ap (λ l. phaseWords l (caller made)) (sym t) ∙ ap (phaseWords after) (caller-for (read .kind) (read .member) (read .argument)) ∙ sym p)
+            ∙ sym (phase-given (done .number) phase)) i)
+            ((ap lastWord (sym r) ∙ last-word done ∙ ap (given (done .returned)) (sym w)) i);
+      })
+
+-- Tables.
+
+pub whole-words : (n : ℕ) (b : Board) → 1 ≤ n → n ≤ 12 → Whole (tableWords n b)
+whole-words n b p q = rw (table-zero n b) (record { least = p; most = q; long = length-table n b; size = table-zero n b })
+
+pub whole-some : (l : List ℕ) → Whole l → 0 < length l
+whole-some [] w = w .least
+whole-some (x ∷ l) w = omega arith
+
+pub whole-after : (l : List ℕ) (call : Call) → Whole l → Whole (tableAfter concur l call)
+unfolding tableAfter
+whole-after l call w = on (eqb (tableAnswer concur l call) 0)
+    (λ p. rw p (whole-words (words l 0) (done concur (words l 0) (boardIn l) call) (w .least) (w .most)))
+    (λ p. rw p w)
+
+whole-stepped : (step : ℕ) (l : List ℕ) (call : Option Call) → Whole l → Whole (stepped concur step l call .table)
+unfolding stepped
+whole-stepped step l none w = w
+whole-stepped step l (some call) w = whole-after l call w
+
+pub step-whole : (step : ℕ) (l line : List ℕ) → Whole l → Whole (stepLine concur step l line .table)
+unfolding stepLine
+step-whole step l line w = whole-stepped step l (callOf (lineOf line)) w
+
+pub opened-words : (n : ℕ) (l : List ℕ) → inside 12 n ≡ true → length l ≡ tableSize n → openWords n l ≡ tableWords n (opened n)
+unfolding openWords openNumber
+opened-words n l p q = rw (p, eq-eqb (length l) (tableSize n) q)
+
+-- Texts.
+
+pub wrote : {before after : List ℕ} {place : ℕ} {text : List ℕ} {next : ℕ} → Printed before after place text next
+    → place + length text ≤ length before → Wrote before after place text next
+wrote {before} {after} {place} {text} {next} p h = record {
+  printed = p;
+  room = let long : length after ≡ length before = ap length (p .bytes) ∙ length-replaced before place text h in omega (arith, p .behind);
+}
+
+-- what stands at the front of the output after a text was written behind what stood there
+pub wrote-front : {before after : List ℕ} {place : ℕ} {text : List ℕ} {next : ℕ} → Wrote before after place text next → place ≤ length before
+    → take next after ≡ take place before ++ text
+wrote-front {before} {after} {place} {text} {next} w h =
+    let head : length (take place before) ≡ place = length-take-le place before h in
+    let rest = text ++ drop (length text) (drop place before) in
+    ap (λ k. take k after) (w .printed .behind ∙ ap (λ k. k + length text) (sym head))
+    ∙ ap (take (length (take place before) + length text)) (w .printed .bytes)
+    ∙ take-append-add (take place before) rest (length text)
+    ∙ ap (λ t. take place before ++ t) (take-append-seam text (drop (length text) (drop place before)))
+
+pub wrote-nothing : (l : List ℕ) (place : ℕ) → place ≤ length l → Wrote l l place [] place
+wrote-nothing l place h = record {
+  printed = record { behind = omega arith; bytes = sym (take-append-drop place l) };
+  room = h;
+}

@@ -1,0 +1,42 @@
+-- `phase_of` meets its contract. Assumes nothing.
+use borrow.Author.Needs.{needs}
+use mathlib.Core.Path.{_≡_, sym, _∙_}
+use Prim.Native.Nat.{_+_}
+use mathlib.Core.Bool.{true, false}
+use Rattle.lists.specs.Functions.{inside, within}
+use Rattle.lists.specs.Parts.{words}
+use Rattle.lists.proofs.Functions.{inside-low, inside-high, within-off}
+use Rattle.model.specs.Table.{blockAt, phaseAt}
+use Rattle.model.specs.TableCalls.{phaseWords}
+use Rattle.script_run.proofs.Held.{whole-some}
+use Rattle.script_run.proofs.calls.phase_of.Statement.{statement}
+use Rattle.script_run.proofs.calls.phase_of.Tie as tie
+
+shared-slice-read-n : tie.Need-shared-slice-read-n
+shared-slice-read-n c = whole-some (c .before .before .args .table .now) (c .before .before .pre)
+
+is-numbered-requires : tie.Need-is-numbered-requires
+is-numbered-requires c κs = search needs
+
+phase-requires : tie.Need-phase-requires
+phase-requires c κs =
+    let a = (c .before .before .before .before .args) in
+    let n = words (a .table .now) 0 in
+    let e : inside n (a .member) ≡ true = sym (c .before .is-numbered .ensures) ∙ c .if1 .taken in
+    ((c .before .before .before .before .pre), record { least = inside-low n (a .member) e; most = inside-high n (a .member) e })
+
+returns : tie.Need-returns
+returns c = search needs
+
+returns-2 : tie.Need-returns-2
+unfolding phaseWords
+returns-2 c =
+    let a = (c .before .before .before .before .args) in
+    let l = a .table .now in
+    let n = words l 0 in
+    let e : inside n (a .member) ≡ false = sym (c .before .is-numbered .ensures) ∙ c .if1 .left in
+    sym (within-off n 0 (λ k. words l (blockAt n k + phaseAt)) (a .member) e)
+
+pub phase-of-spec : {M : Type 1} → statement M
+phase-of-spec =
+    tie.close (tie.spec shared-slice-read-n is-numbered-requires phase-requires returns returns-2)

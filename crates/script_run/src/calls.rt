@@ -1,0 +1,67 @@
+// The call that a line makes, and what is read off the table after it.
+ghost use mathlib.Core.Path.{_≡_};
+ghost use mathlib.Core.Bool.{false};
+ghost use Rattle.lists.specs.Parts.{words};
+ghost use Rattle.model.specs.Kinds.{concur};
+ghost use Rattle.model.specs.TableCalls.{tableAnswer, tableAfter, tableReturns, phaseWords};
+ghost use Rattle.member.specs.Results.{returnedIn};
+ghost use Rattle.script_run.specs.Meaning.{callFor, Whole};
+use board::begin;
+use board::crash;
+use board::deliver;
+use board::steps::phase;
+use member::Outcome;
+use records::is_numbered;
+
+const READ: u32 = 1;
+
+const WRITE: u32 = 2;
+
+// A call that returns no value.
+fn plain(number: u32) -> Outcome
+    ensures { λ r. ⌜ (r .number ≡ number) × (r .returned ≡ false) ⌝ }
+{
+    Outcome {
+        number,
+        returned: false,
+        value: [0; 8],
+    }
+}
+
+// The call of a line that has one: V of a write fills the value's last word.
+pub fn make_call(table: &mut [u32], kind: u32, member: u32, argument: u32) -> Outcome
+    ensures { λ r. ⌜ r .number ≡ tableAnswer concur (now (table .entry)) (callFor kind member argument) ⌝ }
+    ensures { λ r. ⌜ returnedIn r ≡ tableReturns concur (now (table .entry)) (callFor kind member argument) ⌝ }
+    ensures { λ _. ⌜ now (table .exit) ≡ tableAfter concur (now (table .entry)) (callFor kind member argument) ⌝ }
+{
+    if kind == script::WRITE {
+        let value = [0, 0, 0, 0, 0, 0, 0, argument];
+        return plain(begin(table, member, member, WRITE, value));
+    }
+    if kind == script::READ {
+        return plain(begin(table, member, argument, READ, [0; 8]));
+    }
+    if kind == script::DELIVER {
+        return deliver(table, member);
+    }
+    plain(crash(table, member))
+}
+
+// A member's phase, and 0 where there is no such member.
+pub fn phase_of(table: &[u32], member: u32) -> u32
+    requires { ⌜ Whole (now table) ⌝ }
+    ensures { λ r. ⌜ r ≡ phaseWords (now (table .entry)) member ⌝ }
+{
+    let n = table[0];
+    if is_numbered(member, n) {
+        return phase(table, n, member);
+    }
+    0
+}
+
+// The last word of a value.
+pub fn last_word(value: [u32; 8]) -> u32
+    ensures { λ r. ⌜ r ≡ words value 7 ⌝ }
+{
+    value[7]
+}
