@@ -1,7 +1,7 @@
 // What the board program reads off a table that it has just made a call on.
 ghost use mathlib.Core.Path.{_≡_};
 ghost use Rattle.model.specs.TableCalls.{phaseWords};
-ghost use Rattle.member.specs.Needs.{Within};
+ghost use Rattle.checks.specs.Needs.{Within};
 ghost use Rattle.board.specs.Needs.{Table};
 use crate::layout::block_at;
 
