@@ -25,7 +25,7 @@ use Rattle.model.proofs.AsReference.{board-phase}
 use Rattle.laws.proofs.Sound.{board-parts}
 use Rattle.laws.proofs.Tables.{table-back}
 use Rattle.laws.proofs.Numbers.{no-ground}
-use Rattle.member.specs.Needs.{Within}
+use Rattle.checks.specs.Needs.{Within}
 use Rattle.member.specs.Results.{Taken, returnedIn}
 use Rattle.member.specs.declared.Outcome.{Outcome}
 use Rattle.board.specs.Needs.{Table, Sound, Turn, Left, Answered}

@@ -17,7 +17,7 @@ use Rattle.model.specs.Board.{Board, withMember, submitTaken, sentRecord, commi
 use Rattle.model.specs.Table.{blockAt, entryAt, firstAt, newestAt, storedAt, memberOf, entryOf, storedOf, hostOf, storedRecordsOf, boardOf}
 use Rattle.laws.proofs.Records.{within-read}
 use Rattle.laws.proofs.Tables.{member-at, entry-at, stored-at}
-use Rattle.member.specs.Needs.{Within}
+use Rattle.checks.specs.Needs.{Within}
 use Rattle.member.specs.Results.{Taken}
 use Rattle.member.specs.declared.Outcome.{Outcome}
 use Rattle.board.specs.Needs.{Left}

@@ -13,7 +13,8 @@ use Rattle.model.specs.Member.{Member}
 use Rattle.model.specs.Board.{Board, withMember}
 use Rattle.model.specs.Table.{blockSize, blockAt, hostAt, hostSize, tableSize, memberOf, hostOf, storedRecordsOf, boardOf, tableWords, soundHost}
 use Rattle.laws.proofs.Tables.{board-member-part, board-member-put, board-host-part, board-stored-part, board-host-put, table-back}
-use Rattle.member.specs.Needs.{Block, Within, Running}
+use Rattle.checks.specs.Needs.{Within}
+use Rattle.member.specs.Needs.{Block, Running}
 use Rattle.host.specs.Needs.{Entries, Slot}
 use Rattle.board.specs.Needs.{Table, Left, BlockPlace, HostPlace}
 

@@ -12,7 +12,7 @@ use Rattle.lists.proofs.Functions.{within-at, inside-low, inside-high}
 use Rattle.model.specs.Kinds.{concur}
 use Rattle.model.specs.Table.{tableSize, blockAt, phaseAt, boardOf, tableNumber, soundMember, soundHost, soundBoard}
 use Rattle.model.specs.TableCalls.{phaseWords}
-use Rattle.member.specs.Needs.{Within}
+use Rattle.checks.specs.Needs.{Within}
 use Rattle.board.specs.Needs.{Table}
 
 -- the check of member i's block in the table

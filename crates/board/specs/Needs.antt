@@ -9,7 +9,7 @@ use Rattle.model.specs.Kinds.{concur}
 use Rattle.model.specs.Board.{Board}
 use Rattle.model.specs.Runs.{Call, answerOf, after}
 use Rattle.model.specs.Table.{blockSize, blockAt, hostAt, hostSize, tableSize, boardOf, soundBoard}
-use Rattle.member.specs.Needs.{Within}
+use Rattle.checks.specs.Needs.{Within}
 
 -- a whole table of a board of n
 pub record Table (n : ℕ) (l : List ℕ) : Type 0 where

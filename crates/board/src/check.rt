@@ -7,7 +7,7 @@ ghost use Rattle.model.specs.Table.{boardOf, soundMember, soundHost, tableNumbe
 ghost use Rattle.board.specs.Needs.{Table};
 use crate::layout::block_at;
 use crate::layout::host_at;
-use crate::layout::table_size;
+use crate::steps::table_size;
 use host::steps::host_size;
 use host::steps::sound_entries;
 use member::steps::block_size;

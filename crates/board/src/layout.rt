@@ -1,9 +1,6 @@
 // Where the parts of the table lie: n, the member blocks, the host entries.
-ghost use mathlib.Core.Path.{_≡_};
 ghost use Prim.Native.Nat.{_≤_};
-ghost use Rattle.model.specs.Table.{tableSize};
 ghost use Rattle.board.specs.Needs.{BlockPlace, HostPlace};
-use host::steps::host_size;
 use member::steps::block_size;
 
 const BLOCKS_AT: usize = 1;
@@ -20,11 +17,4 @@ pub fn host_at(n: usize) -> usize
     ensures { λ r. ⌜ HostPlace n r ⌝ }
 {
     BLOCKS_AT + n * block_size(n)
-}
-
-pub fn table_size(n: usize) -> usize
-    requires { ⌜ n ≤ 12 ⌝ }
-    ensures { λ r. ⌜ (r ≡ tableSize n) × (r ≤ 9781) ⌝ }
-{
-    host_at(n) + host_size(n)
 }

@@ -23,10 +23,10 @@ use calls::crash_on;
 use calls::deliver_on;
 use calls::nothing;
 use check::table_number;
-use layout::table_size;
 use member::Outcome;
 use opening::open_all;
 use records::is_numbered;
+use steps::table_size;
 
 // Opening, on a table whose old words are not looked at.
 pub fn open(table: &mut [u32], n: u32) -> u32

@@ -22,7 +22,8 @@ use Rattle.rows.specs.declared.Row.{Row}
 use Rattle.rows.specs.Meaning.{matrixIn}
 use Rattle.records.specs.Meaning.{recordIn}
 use Rattle.records.proofs.Laws.{zero-value}
-use Rattle.member.specs.Needs.{Block, Within, Running}
+use Rattle.checks.specs.Needs.{Within}
+use Rattle.member.specs.Needs.{Block, Running}
 use Rattle.member.specs.Layout.{LayoutOf}
 use Rattle.member.specs.declared.layout.Places.{Places}
 use Rattle.member.specs.Results.{Taken, returnedIn}

@@ -1,5 +1,3 @@
-pub mod Tests
-pub mod Matrices
 pub mod Sizes
 pub mod Refusals
 pub mod Laws

@@ -17,7 +17,8 @@ use Rattle.model.specs.Member.{Member}
 use Rattle.model.specs.Table.{blockSize, memberOf, memberWords, soundRecord, soundOperation, soundMember, blockNumber}
 use Rattle.model.specs.Halves.{orElse, unlessRefused, fitRecord, memberNumber, memberBeginNumber, notWaiting, replyNumber, outcomeNumber, memberCrashNumber}
 use Rattle.laws.proofs.Blocks.{member-back}
-use Rattle.member.specs.Needs.{Block, Within, Running}
+use Rattle.checks.specs.Needs.{Within}
+use Rattle.member.specs.Needs.{Block, Running}
 
 -- The number 0 has passed every ground.
 

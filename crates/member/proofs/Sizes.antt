@@ -8,7 +8,8 @@ use Rattle.lists.specs.Parts.{words}
 use Rattle.model.specs.RecordWords.{recordSize, rowOf}
 use Rattle.model.specs.Table.{ownAt, acceptedAt, lastAt, pendingAt, knownAt, firstAt, secondAt, blockSize, slotAt, memberOf}
 use Rattle.laws.proofs.Records.{rowOf-at}
-use Rattle.member.specs.Needs.{Within, Running}
+use Rattle.checks.specs.Needs.{Within}
+use Rattle.member.specs.Needs.{Running}
 
 pub head-room : (n : ℕ) → 5 ≤ blockSize n
 unfolding blockSize secondAt firstAt knownAt pendingAt lastAt acceptedAt

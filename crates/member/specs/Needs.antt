@@ -4,6 +4,7 @@ use mathlib.Core.Path.{_≡_}
 use mathlib.Core.List.{List}
 use lib.ListN.{length}
 use Rattle.lists.specs.Parts.{words}
+use Rattle.checks.specs.Needs.{Within}
 use Rattle.model.specs.Table.{blockSize, memberOf}
 
 -- a whole block of a board of n
@@ -11,11 +12,6 @@ pub record Block (n : ℕ) (l : List ℕ) : Type 0 where
   pub least : 1 ≤ n
   pub most : n ≤ 12
   pub long : length l ≡ blockSize n
-
--- one of 1 to n
-pub record Within (n k : ℕ) : Type 0 where
-  pub least : 1 ≤ k
-  pub most : k ≤ n
 
 -- a block whose operation has a slot of the board
 pub record Running (n : ℕ) (l : List ℕ) : Type 0 where

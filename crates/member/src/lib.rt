@@ -10,7 +10,7 @@ ghost use Rattle.records.specs.Meaning.{recordIn};
 ghost use Rattle.member.specs.Results.{returnedIn};
 
 pub mod answers;
-mod checks;
+mod halts;
 mod layout;
 mod marks;
 mod numbers;

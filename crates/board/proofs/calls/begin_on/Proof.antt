@@ -4,7 +4,7 @@ use native.Mathlib.Omega.{arith}
 use Rattle.lists.specs.Parts.{words}
 use Rattle.model.specs.Kinds.{concur}
 use Rattle.model.specs.Runs.{begin, answerOf, done}
-use Rattle.member.proofs.Tests.{refused, allowed}
+use Rattle.laws.proofs.Tests.{refused, allowed}
 use Rattle.board.proofs.Lent.{block-lent, whole-block, member-lent, step-left}
 use Rattle.board.proofs.Answers.{within, refuses, takes, no-begin, count-room}
 use Rattle.model.specs.RecordWords.{valueOf}

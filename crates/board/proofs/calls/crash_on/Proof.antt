@@ -2,7 +2,7 @@ use borrow.Author.Needs.{needs}
 use mathlib.Core.Path.{sym, ap, _∙_}
 use native.Mathlib.Omega.{arith}
 use Rattle.model.specs.Runs.{crash, answerOf, done}
-use Rattle.member.proofs.Tests.{refused, allowed}
+use Rattle.laws.proofs.Tests.{refused, allowed}
 use Rattle.board.proofs.Lent.{block-lent, whole-block, member-lent, step-left}
 use Rattle.board.proofs.Answers.{within, refuses, takes, no-crash}
 use Rattle.model.specs.Numbers.{crashAnswer}

@@ -2,7 +2,7 @@ use borrow.Author.Needs.{needs}
 use mathlib.Core.Path.{sym, ap, _∙_}
 use native.Mathlib.Omega.{arith}
 use Rattle.model.specs.Runs.{deliver, answerOf, done, doneReturns}
-use Rattle.member.proofs.Tests.{refused, allowed}
+use Rattle.laws.proofs.Tests.{refused, allowed}
 use Rattle.board.proofs.Lent.{block-lent, whole-block, member-lent}
 use Rattle.board.proofs.Answers.{within, no-deliver, hands, hands-none, turn}
 use Rattle.model.specs.Numbers.{deliverAnswer}

@@ -7,7 +7,7 @@ use Rattle.lists.specs.Functions.{each}
 use Rattle.lists.proofs.Functions.{each-none}
 use Rattle.model.specs.Kinds.{concur}
 use Rattle.model.specs.Table.{soundMember}
-use Rattle.member.proofs.Tests.{stops, goes-on, ends}
+use Rattle.laws.proofs.Tests.{stops, goes-on, ends}
 use Rattle.board.proofs.Numbers.{soundAt}
 use Rattle.board.proofs.Lent.{block-lent, whole-block, member-lent, next}
 use Rattle.board.proofs.check.sound_blocks.Statement.{statement}

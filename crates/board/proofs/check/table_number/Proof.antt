@@ -2,7 +2,7 @@ use borrow.Author.Needs.{needs}
 use mathlib.Core.Path.{sym, _∙_}
 use borrow.Author.Tests.{eq-eqb, ne-eqb}
 use Rattle.lists.proofs.Functions.{inside-high}
-use Rattle.member.proofs.Tests.{refused, allowed}
+use Rattle.laws.proofs.Tests.{refused, allowed}
 use Rattle.board.proofs.Numbers.{empty-refused, size-refused, length-refused, blocks-refused, host-refused, none-refused, table-of}
 use native.Mathlib.Omega.{arith}
 use Rattle.board.proofs.check.table_number.Statement.{statement}

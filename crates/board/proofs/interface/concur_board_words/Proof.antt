@@ -1,7 +1,7 @@
 use borrow.Author.Needs.{needs}
 use native.Mathlib.Omega.{arith}
 use Rattle.lists.proofs.Functions.{inside-high}
-use Rattle.member.proofs.Tests.{refused, allowed}
+use Rattle.laws.proofs.Tests.{refused, allowed}
 use Rattle.board.specs.Interface.{wordsFor}
 use Rattle.board.proofs.interface.concur_board_words.Statement.{statement}
 use Rattle.board.proofs.interface.concur_board_words.Tie as tie

@@ -6,7 +6,7 @@ use borrow.Author.Tests.{eq-eqb, ne-eqb}
 use Rattle.lists.proofs.Functions.{inside-low, inside-high}
 use Rattle.model.specs.Table.{blockSize, blockNumber}
 use Rattle.model.specs.Halves.{memberNumber}
-use Rattle.member.proofs.Tests.{refused, allowed}
+use Rattle.laws.proofs.Tests.{refused, allowed}
 use Rattle.member.proofs.numbers.member_number.Statement.{statement}
 use Rattle.member.proofs.numbers.member_number.Tie as tie
 

@@ -7,7 +7,7 @@ use Rattle.lists.specs.Parts.{words}
 use Rattle.model.specs.Kinds.{concur}
 use Rattle.model.specs.Table.{memberOf}
 use Rattle.model.specs.Halves.{memberNumber, notWaiting, outcomeNumber}
-use Rattle.member.proofs.Tests.{refused, allowed}
+use Rattle.laws.proofs.Tests.{refused, allowed}
 use Rattle.member.proofs.Refusals.{refused-waiting, passed-waiting}
 use Rattle.member.proofs.numbers.outcome_number.Statement.{statement}
 use Rattle.member.proofs.numbers.outcome_number.Tie as tie

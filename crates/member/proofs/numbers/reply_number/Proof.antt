@@ -13,7 +13,7 @@ use Rattle.model.specs.Records.{Rec, recordWithin}
 use Rattle.model.specs.Table.{memberOf}
 use Rattle.model.specs.Halves.{orElse, fitRecord, memberNumber, notWaiting, replyNumber}
 use Rattle.records.specs.Meaning.{recordIn}
-use Rattle.member.proofs.Tests.{refused, allowed}
+use Rattle.laws.proofs.Tests.{refused, allowed}
 use Rattle.member.proofs.Refusals.{refused-waiting, passed-waiting}
 use Rattle.member.proofs.numbers.reply_number.Statement.{statement}
 use Rattle.member.proofs.numbers.reply_number.Tie as tie

@@ -7,7 +7,7 @@ use Rattle.lists.specs.Parts.{words}
 use Rattle.lists.proofs.Functions.{inside-low, inside-high, numbered-off}
 use Rattle.model.specs.RecordWords.{rowOf}
 use Rattle.model.specs.Table.{ownAt, memberOf}
-use Rattle.member.proofs.Tests.{refused, allowed}
+use Rattle.laws.proofs.Tests.{refused, allowed}
 use Rattle.member.proofs.Sizes.{own-room, own-at}
 use Rattle.member.proofs.steps.own_count.Statement.{statement}
 use Rattle.member.proofs.steps.own_count.Tie as tie

@@ -12,7 +12,7 @@ use Rattle.lists.specs.Parts.{words}
 use Rattle.model.specs.RecordWords.{recordSize, recordOf}
 use Rattle.model.specs.Kinds.{concur, barred}
 use Rattle.model.specs.Table.{firstAt, secondAt, memberOf, soundRecord, soundOperation, soundMember}
-use Rattle.member.proofs.Tests.{refused, allowed}
+use Rattle.laws.proofs.Tests.{refused, allowed}
 use Rattle.member.proofs.Sizes.{head-room, first-room, second-room}
 use Rattle.member.proofs.steps.sound_block.Statement.{statement}
 use Rattle.member.proofs.steps.sound_block.Tie as tie

@@ -14,9 +14,9 @@ use Rattle.model.specs.Member.{check26}
 use Rattle.rows.specs.declared.Row.{Row}
 use Rattle.rows.specs.Meaning.{rowIn, matrixIn, noRow}
 use Rattle.rows.proofs.Laws.{row-at}
-use Rattle.member.proofs.Tests.{stops, goes-on, ends}
-use Rattle.member.proofs.checks.check_26.Statement.{statement}
-use Rattle.member.proofs.checks.check_26.Tie as tie
+use Rattle.laws.proofs.Tests.{stops, goes-on, ends}
+use Rattle.checks.proofs.steps.check_26.Statement.{statement}
+use Rattle.checks.proofs.steps.check_26.Tie as tie
 
 abbrev test : ℕ → ℕ → List Row → List Row → ℕ → Bool
 test n i known newest j = eqb j i || comparable n (matrixIn known j) (matrixIn newest j)

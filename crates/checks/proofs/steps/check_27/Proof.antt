@@ -14,10 +14,10 @@ use Rattle.model.specs.Member.{check27}
 use Rattle.rows.specs.declared.Row.{Row}
 use Rattle.rows.specs.Meaning.{rowIn, matrixIn, noRow}
 use Rattle.rows.proofs.Laws.{count-at, row-at}
-use Rattle.member.proofs.Tests.{stops, goes-on, ends}
-use Rattle.member.proofs.Matrices.{count-of}
-use Rattle.member.proofs.checks.check_27.Statement.{statement}
-use Rattle.member.proofs.checks.check_27.Tie as tie
+use Rattle.laws.proofs.Tests.{stops, goes-on, ends}
+use Rattle.checks.proofs.Matrices.{count-of}
+use Rattle.checks.proofs.steps.check_27.Statement.{statement}
+use Rattle.checks.proofs.steps.check_27.Tie as tie
 
 abbrev test : ℕ → ℕ → Row → List Row → ℕ → Bool
 test i r accepted newest j = eqb j r || leb (matrixIn newest j i) (rowIn accepted j)

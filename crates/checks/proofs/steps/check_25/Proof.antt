@@ -8,10 +8,10 @@ use lib.ListN.{getD}
 use Rattle.model.specs.Rows.{matrixBelow}
 use Rattle.model.specs.Member.{check25}
 use Rattle.rows.specs.Meaning.{matrixIn, noRow}
-use Rattle.member.proofs.Tests.{refused, allowed}
-use Rattle.member.proofs.Matrices.{row-of, count-of}
-use Rattle.member.proofs.checks.check_25.Statement.{statement}
-use Rattle.member.proofs.checks.check_25.Tie as tie
+use Rattle.laws.proofs.Tests.{refused, allowed}
+use Rattle.checks.proofs.Matrices.{row-of, count-of}
+use Rattle.checks.proofs.steps.check_25.Statement.{statement}
+use Rattle.checks.proofs.steps.check_25.Tie as tie
 
 sub-at : tie.Need-sub-at
 sub-at c = search needs

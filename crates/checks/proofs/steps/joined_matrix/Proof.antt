@@ -13,9 +13,9 @@ use Rattle.model.proofs.Rows.{withCount-in}
 use Rattle.rows.specs.declared.Row.{Row}
 use Rattle.rows.specs.Meaning.{rowIn, matrixIn, noRow}
 use Rattle.rows.proofs.Laws.{zero-rows, row-at}
-use Rattle.member.proofs.Matrices.{row-of, joined-rows}
-use Rattle.member.proofs.checks.joined_matrix.Statement.{statement}
-use Rattle.member.proofs.checks.joined_matrix.Tie as tie
+use Rattle.checks.proofs.Matrices.{row-of, joined-rows}
+use Rattle.checks.proofs.steps.joined_matrix.Statement.{statement}
+use Rattle.checks.proofs.steps.joined_matrix.Tie as tie
 
 abbrev row : ℕ → List Row → List Row → ℕ → ℕ → ℕ
 row n known newest j = larger n (matrixIn known (j + 1)) (matrixIn newest (j + 1))

@@ -1,8 +1,8 @@
 -- `in_order` meets its contract. Assumes nothing.
 use borrow.Author.Needs.{needs}
 use mathlib.Core.Path.{refl}
-use Rattle.member.proofs.checks.in_order.Statement.{statement}
-use Rattle.member.proofs.checks.in_order.Tie as tie
+use Rattle.checks.proofs.steps.in_order.Statement.{statement}
+use Rattle.checks.proofs.steps.in_order.Tie as tie
 
 returns : tie.Need-returns
 returns c = rw (c .if1 .taken)

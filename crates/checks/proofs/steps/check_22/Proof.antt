@@ -14,10 +14,10 @@ use Rattle.model.specs.Member.{check22}
 use Rattle.rows.specs.declared.Row.{Row}
 use Rattle.rows.specs.Meaning.{rowIn, matrixIn, noRow}
 use Rattle.rows.proofs.Laws.{count-at}
-use Rattle.member.proofs.Tests.{stops, goes-on, ends}
-use Rattle.member.proofs.Matrices.{row-of}
-use Rattle.member.proofs.checks.check_22.Statement.{statement}
-use Rattle.member.proofs.checks.check_22.Tie as tie
+use Rattle.laws.proofs.Tests.{stops, goes-on, ends}
+use Rattle.checks.proofs.Matrices.{row-of}
+use Rattle.checks.proofs.steps.check_22.Statement.{statement}
+use Rattle.checks.proofs.steps.check_22.Tie as tie
 
 abbrev test : ℕ → Row → Row → ℕ → Bool
 test i a b k = eqb k i || leb (rowIn a k) (rowIn b k)

@@ -6,9 +6,9 @@ use lib.ListN.{getD}
 use Prim.Native.Nat.{_-_}
 use Rattle.model.specs.Member.{check23}
 use Rattle.rows.specs.Meaning.{noRow}
-use Rattle.member.proofs.Matrices.{row-of, count-of}
-use Rattle.member.proofs.checks.check_23.Statement.{statement}
-use Rattle.member.proofs.checks.check_23.Tie as tie
+use Rattle.checks.proofs.Matrices.{row-of, count-of}
+use Rattle.checks.proofs.steps.check_23.Statement.{statement}
+use Rattle.checks.proofs.steps.check_23.Tie as tie
 
 sub-row : tie.Need-sub-row
 sub-row c = search needs

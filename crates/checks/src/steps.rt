@@ -3,19 +3,11 @@ ghost use mathlib.Core.Path.{_≡_};
 ghost use mathlib.Core.Bool.{_||_};
 ghost use Prim.Native.Nat.{_≤_, min};
 ghost use lib.Dec.{leb};
-ghost use Rattle.lists.specs.Parts.{words};
 ghost use Rattle.model.specs.Rows.{comparable as comparableOf};
 ghost use Rattle.model.specs.Records.{matrixWithin};
-ghost use Rattle.model.specs.Member.{check22, check23, check25, check26, check27, haltNumber, joined};
-ghost use Rattle.model.specs.Table.{memberOf};
+ghost use Rattle.model.specs.Member.{check22, check23, check25, check26, check27, joined};
 ghost use Rattle.rows.specs.Meaning.{rowIn, matrixIn};
-ghost use Rattle.records.specs.Meaning.{recordIn};
-ghost use Rattle.member.specs.Needs.{Within, Running};
-use crate::layout::SLOT_AT;
-use crate::layout::layout;
-use records::Record;
-use records::steps::load_matrix;
-use records::steps::load_row;
+ghost use Rattle.checks.specs.Needs.{Within};
 use rows::Row;
 use rows::matrix_below;
 
@@ -40,7 +32,7 @@ fn in_order(skipped: bool, a: Row, b: Row, n: usize) -> bool
 }
 
 // 22: in the slot's row, no other member's known count exceeds the newest record's.
-fn check_22(known: [Row; 12], newest: [Row; 12], n: usize, member: usize, slot: usize) -> bool
+pub fn check_22(known: [Row; 12], newest: [Row; 12], n: usize, member: usize, slot: usize) -> bool
     requires { ⌜ (n ≤ 12) × (Within n slot) ⌝ }
     ensures { λ r. ⌜ r ≡ check22 n member slot (matrixIn known) (matrixIn newest) ⌝ }
 {
@@ -58,7 +50,7 @@ fn check_22(known: [Row; 12], newest: [Row; 12], n: usize, member: usize, slot: 
 }
 
 // 23: the newest record's entry for the member is its accepted count.
-fn check_23(accepted: Row, newest: [Row; 12], member: usize, slot: usize) -> bool
+pub fn check_23(accepted: Row, newest: [Row; 12], member: usize, slot: usize) -> bool
     requires { ⌜ (Within 12 member) × (Within 12 slot) ⌝ }
     ensures { λ r. ⌜ r ≡ check23 member slot (rowIn accepted) (matrixIn newest) ⌝ }
 {
@@ -67,7 +59,7 @@ fn check_23(accepted: Row, newest: [Row; 12], member: usize, slot: usize) -> boo
 }
 
 // 25: the stored matrix is below the newest, and they agree in the slot's row at its owner.
-fn check_25(stored: [Row; 12], newest: [Row; 12], n: usize, slot: usize) -> bool
+pub fn check_25(stored: [Row; 12], newest: [Row; 12], n: usize, slot: usize) -> bool
     requires { ⌜ (n ≤ 12) × (Within n slot) ⌝ }
     ensures { λ r. ⌜ r ≡ check25 n slot (matrixIn stored) (matrixIn newest) ⌝ }
 {
@@ -81,7 +73,7 @@ fn check_25(stored: [Row; 12], newest: [Row; 12], n: usize, slot: usize) -> bool
 }
 
 // 26: in every other row, known and newest are comparable.
-fn check_26(known: [Row; 12], newest: [Row; 12], n: usize, slot: usize) -> bool
+pub fn check_26(known: [Row; 12], newest: [Row; 12], n: usize, slot: usize) -> bool
     requires { ⌜ n ≤ 12 ⌝ }
     ensures { λ r. ⌜ r ≡ check26 n slot (matrixIn known) (matrixIn newest) ⌝ }
 {
@@ -96,7 +88,7 @@ fn check_26(known: [Row; 12], newest: [Row; 12], n: usize, slot: usize) -> bool
 }
 
 // 27: in every other row, the newest record's entry for the member is not above its accepted count there.
-fn check_27(accepted: Row, newest: [Row; 12], n: usize, member: usize, slot: usize) -> bool
+pub fn check_27(accepted: Row, newest: [Row; 12], n: usize, member: usize, slot: usize) -> bool
     requires { ⌜ (n ≤ 12) × (Within 12 member) ⌝ }
     ensures { λ r. ⌜ r ≡ check27 n member slot (rowIn accepted) (matrixIn newest) ⌝ }
 {
@@ -110,48 +102,6 @@ fn check_27(accepted: Row, newest: [Row; 12], n: usize, member: usize, slot: usi
         j += 1;
     }
     true
-}
-
-// The number of the first check that fails, 0 where the reply passes.
-pub fn halt_number(
-    block: &[u32],
-    n: usize,
-    member: usize,
-    newest: Record,
-    stored: Record,
-    seals: u32,
-) -> u32
-    requires { ⌜ (Running n (now block)) × (Within n member) ⌝ }
-    ensures { λ r. ⌜ r ≡ haltNumber n member (memberOf n (words (now (block .entry)))) (recordIn newest) (recordIn stored) seals ⌝ }
-{
-    let at = layout(n);
-    let slot = block[SLOT_AT] as usize;
-    let known = load_matrix(block, at.known, n);
-    let accepted = load_row(block, at.accepted, n);
-    let latest = newest.matrix;
-    let kept = stored.matrix;
-    if seals != 3 {
-        return 21;
-    }
-    if !check_22(known, latest, n, member, slot) {
-        return 22;
-    }
-    if !check_23(accepted, latest, member, slot) {
-        return 23;
-    }
-    if stored.member != block[SLOT_AT] {
-        return 24;
-    }
-    if !check_25(kept, latest, n, slot) {
-        return 25;
-    }
-    if !check_26(known, latest, n, slot) {
-        return 26;
-    }
-    if !check_27(accepted, latest, n, member, slot) {
-        return 27;
-    }
-    0
 }
 
 // The matrix of the member's own record: in the slot's row the newest record's with the member's own count, elsewhere the larger row.

@@ -18,10 +18,10 @@ use Rattle.rows.specs.declared.Row.{Row}
 use Rattle.rows.specs.Meaning.{rowIn, matrixIn}
 use Rattle.records.specs.declared.Record.{Record}
 use Rattle.records.specs.Meaning.{recordIn}
-use Rattle.member.proofs.Tests.{refused, allowed}
+use Rattle.laws.proofs.Tests.{refused, allowed}
 use Rattle.member.proofs.Sizes.{widened, running-slot, head-room, accepted-room, known-room}
-use Rattle.member.proofs.checks.halt_number.Statement.{statement}
-use Rattle.member.proofs.checks.halt_number.Tie as tie
+use Rattle.member.proofs.halts.halt_number.Statement.{statement}
+use Rattle.member.proofs.halts.halt_number.Tie as tie
 
 abbrev number : ℕ → ℕ → ℕ → List Row → Row → Record → Record → ℕ → ℕ
 number n i r known accepted newest stored seals =

@@ -1,7 +1,7 @@
 -- `not_above` meets its contract. Assumes nothing.
 use mathlib.Core.Path.{refl}
-use Rattle.member.proofs.checks.not_above.Statement.{statement}
-use Rattle.member.proofs.checks.not_above.Tie as tie
+use Rattle.checks.proofs.steps.not_above.Statement.{statement}
+use Rattle.checks.proofs.steps.not_above.Tie as tie
 
 returns : tie.Need-returns
 returns c = rw (c .if1 .taken)
