@@ -10,10 +10,10 @@ use Rattle.lists.specs.Functions.{inside}
 use Rattle.model.specs.Kinds.{Kind}
 use Rattle.model.specs.Board.{opened}
 use Rattle.model.specs.Runs.{Call}
-use Rattle.model.specs.Demand3.{Every, Demand3}
+use Rattle.model.specs.Demand3.{Every}
 use Rattle.model.specs.Table.{tableSize, tableWords}
-use Rattle.model.specs.TableCalls.{openNumber, openWords, tableAfter, tableSeen, tableRun}
-use Rattle.model.specs.Script.{Line, writes, reads, delivers, crashes, malformed, lineOf, callOf, stepped, stepLine, stepsPrinted, boardLine, boardPrinted, linesPrinted, linesOf, firstOf, mostSteps, scriptOutput}
+use Rattle.model.specs.TableCalls.{openNumber, openWords, tableSeen, tableRun}
+use Rattle.model.specs.Script.{Line, writes, reads, delivers, crashes, malformed, lineOf, callOf, stepped, stepLine, stepsPrinted, boardPrinted, linesPrinted, linesOf, firstOf, mostSteps, scriptOutput}
 use Rattle.laws.proofs.Tables.{length-table}
 use Rattle.runs.specs.Scripts.{withCall, callsOf, seenPrinted, seenBehind, linesSeen, StepsRun, ScriptRun}
 use Rattle.runs.proofs.Held.{CallHeld}

@@ -1,8 +1,8 @@
 -- Laws of how the code holds lines, calls and texts. Assumes nothing.
-use Prim.Native.Nat.{ℕ, suc, _+_, _-_, _≤_, _<_}
+use Prim.Native.Nat.{ℕ, _+_, _≤_, _<_}
 use native.Mathlib.Omega.{arith}
 use mathlib.Core.Path.{_≡_, refl, sym, ap, _∙_}
-use mathlib.Core.Bool.{Bool, true, false, cond, not}
+use mathlib.Core.Bool.{true, false, cond, not}
 use mathlib.Core.List.{List, [], _∷_, _++_}
 use mathlib.Core.Option.{Option, none, some}
 use lib.Dec.{eqb}
@@ -10,8 +10,8 @@ use lib.ListN.{length, take, drop, replicate, take-append-drop}
 use lib.Seq.{take-append-add, take-append-seam, length-take-le}
 use borrow.Author.Tests.{eq-eqb, ne-eqb}
 use Rattle.lists.specs.Functions.{put, inside, numbered}
-use Rattle.lists.specs.Parts.{words, tabulate, replaced}
-use Rattle.lists.proofs.Functions.{on, inside-in, inside-low, inside-high}
+use Rattle.lists.specs.Parts.{words, tabulate}
+use Rattle.lists.proofs.Functions.{on}
 use Rattle.lists.proofs.Parts.{tabulate-at, words-zeros, length-replaced}
 use Rattle.model.specs.Kinds.{concur}
 use Rattle.model.specs.Records.{Value, zeroValue}
@@ -28,7 +28,6 @@ use Rattle.member.specs.declared.Outcome.{Outcome}
 use Rattle.member.specs.Results.{returnedIn}
 use Rattle.script.specs.declared.Line.{Line as LineStruct}
 use Rattle.script.specs.Meaning.{heldLine, given, Printed}
-use Rattle.board.specs.Needs.{Table}
 use Rattle.script_run.specs.Meaning.{Whole, callFor, Wrote}
 
 -- Lines.

@@ -1,11 +1,11 @@
 -- Laws of the states that the lent words and bytes hold, one for each way in which a byte is taken. Assumes nothing.
-use Prim.Native.Nat.{ℕ, suc, _+_, _-_, _≤_, _<_}
+use Prim.Native.Nat.{ℕ, _+_, _≤_, _<_}
 use native.Mathlib.Numerals.{add-one}
 use native.Mathlib.Omega.{arith}
 use mathlib.Core.Path.{_≡_, refl, sym, ap, _∙_}
 use mathlib.Core.Bool.{Bool, true, false, cond, _||_}
 use mathlib.Core.List.{List, [], _∷_, _++_, append-nil}
-use mathlib.Core.Option.{Option, none, some}
+use mathlib.Core.Option.{none, some}
 use lib.Dec.{eqb, ltb}
 use lib.ListN.{length, take, drop, set, length-append, length-drop}
 use lib.Seq.{take-append-seam, length-take-le, take-suc, take-suc-set}
@@ -160,7 +160,7 @@ fed-more s bytes i p table kept out at next table′ kept′ out′ h room e r =
     ∙ fed-one s t (take i bytes) (take at out) (words bytes i) e
     ∙ (λ k. record { state = sym (r .state) k; printed = sym (wrote-front (r .wrote) room) k })
 
--- A script that has not begun, or that is over, on lent words and bytes of the right lengths.
+-- A script that has not begun, on lent words and bytes of the right lengths.
 
 pub start-ready : (table kept : List ℕ) → length table ≡ 9781 → length kept ≡ mostKept → Ready (record { step = 0; size = 0; kept = 0 }) table kept
 start-ready table kept l m = record { room = l; keeps = m; line = omega arith; size = omega arith; whole = λ a b. absurd (omega arith) }
@@ -168,9 +168,6 @@ start-ready table kept l m = record { room = l; keeps = m; line = omega arith; s
 pub start-held : (table kept : List ℕ) → stateOf (record { step = 0; size = 0; kept = 0 }) table kept ≡ start
 unfolding stateOf start
 start-held table kept = refl
-
-pub over-ready : (p : Progress) (table kept : List ℕ) → Ready p table kept → Ready (record { step = overStep; size = 0; kept = 0 }) table kept
-over-ready p table kept r = record { room = r .room; keeps = r .keeps; line = omega arith; size = omega arith; whole = λ a b. absurd (omega arith) }
 
 -- Where there is room for a line, something is taken: nothing taken prints nothing.
 pub took-some : {p : Progress} {table kept bytes : List ℕ} {r : FedStruct} {table′ kept′ out : List ℕ} → Took p table kept bytes r table′ kept′ out

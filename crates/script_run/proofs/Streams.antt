@@ -1,20 +1,20 @@
 -- Laws of feeding: in pieces, and that all bytes fed and ended print what the script's definition says. Assumes nothing.
-use Prim.Native.Nat.{ℕ, zero, suc, _+_, _-_, _≤_, _<_}
+use Prim.Native.Nat.{ℕ, suc, _+_, _-_, _≤_, _<_}
 use native.Mathlib.Omega.{arith}
 use mathlib.Core.Path.{_≡_, refl, sym, ap, _∙_}
-use mathlib.Core.Bool.{Bool, true, false, cond, _||_}
+use mathlib.Core.Bool.{true, false, cond, _||_}
 use mathlib.Core.List.{List, [], _∷_, _++_, append-assoc, append-nil}
 use mathlib.Core.Option.{Option, none, some}
 use lib.Dec.{eqb, ltb}
 use lib.ListN.{length, take, length-append, length-take}
 use lib.Seq.{take-all, take-nil, take-append-le}
-use borrow.Author.Tests.{eq-eqb, ne-eqb, eqb-true, eqb-false, lt-ltb, le-ltb, ltb-true, ltb-false}
+use borrow.Author.Tests.{ne-eqb, eqb-false, lt-ltb, le-ltb, ltb-true, ltb-false}
 use Rattle.lists.specs.Functions.{inside}
 use Rattle.lists.proofs.Functions.{on}
 use Rattle.model.specs.Kinds.{Kind}
 use Rattle.model.specs.Board.{opened}
 use Rattle.model.specs.Table.{tableWords}
-use Rattle.model.specs.Script.{startsWith, lineFeed, firstOf, lineOf, stepLine, boardLine, refusedLine, mostSteps, withByte, linesOf, stepsPrinted, boardPrinted, linesPrinted, scriptOutput}
+use Rattle.model.specs.Script.{startsWith, lineFeed, firstOf, stepLine, boardLine, refusedLine, mostSteps, withByte, linesOf, stepsPrinted, boardPrinted, linesPrinted, scriptOutput}
 use Rattle.script.proofs.Lines.{line-kept, members-kept}
 use Rattle.script_run.specs.Feeding.{State, Fed, mostKept, overStep, over, start, keep, ended, firstRun, stepRun, lineRun, silent, byteFed, fed, lastPrinted}
 

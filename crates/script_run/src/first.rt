@@ -2,7 +2,6 @@
 ghost use mathlib.Core.Path.{_≡_};
 ghost use Prim.Native.Nat.{_+_, _≤_};
 ghost use lib.ListN.{length, take};
-ghost use Rattle.model.specs.Table.{tableSize};
 ghost use Rattle.model.specs.Script.{firstOf, refusedLine};
 ghost use Rattle.script_run.specs.Feeding.{overStep, firstRun};
 ghost use Rattle.script_run.specs.Meaning.{Ready, Wrote, Ran};
@@ -10,35 +9,11 @@ use crate::MOST_STEPS;
 use crate::Next;
 use crate::Progress;
 use board::open;
+use board::steps::table_size;
 use records::is_numbered;
 use script::parse_members;
 use script::steps::print_board;
 use script::steps::print_refused;
-
-// 1 + n(71 + 2n + 5n²) for n from 0 to 12.
-const TABLE_SIZES: [usize; 13] = [
-    1,
-    79,
-    191,
-    367,
-    637,
-    1031,
-    1579,
-    2311,
-    3257,
-    4447,
-    5911,
-    7679,
-    9781,
-];
-
-// How many words the table of a board of n has.
-fn table_size(n: usize) -> usize
-    requires { ⌜ n ≤ 12 ⌝ }
-    ensures { λ r. ⌜ (r ≡ tableSize n) × (r ≤ 9781) ⌝ }
-{
-    TABLE_SIZES[n]
-}
 
 // A first line that a number refuses: nothing follows it.
 fn refuse(p: Progress, number: u32, out: &mut [u8], at: usize) -> Next

@@ -1,13 +1,13 @@
 -- `feed_all` meets its contract. Assumes nothing.
 use borrow.Author.Needs.{needs}
-use Prim.Native.Nat.{ℕ, _≤_, _<_, _-_, _+_}
+use Prim.Native.Nat.{ℕ, _≤_, _-_}
 use mathlib.Core.Path.{_≡_, sym, _∙_}
 use mathlib.Core.List.{List}
 use lib.ListN.{length, take, drop, length-drop}
 use lib.Seq.{length-take-le}
 use native.Mathlib.Omega.{arith}
 use Rattle.script_run.specs.Meaning.{Ready}
-use Rattle.script_run.proofs.States.{took-some, over-ready}
+use Rattle.script_run.proofs.States.{took-some}
 use Rattle.concur_board.proofs.feed_all.Statement.{statement}
 use Rattle.concur_board.proofs.feed_all.Tie as tie
 

@@ -3,7 +3,7 @@ use borrow.Author.Needs.{needs}
 use mathlib.Core.Path.{_≡_, sym, _∙_}
 use Prim.Native.Nat.{_+_}
 use mathlib.Core.Bool.{true, false}
-use Rattle.lists.specs.Functions.{inside, within}
+use Rattle.lists.specs.Functions.{inside}
 use Rattle.lists.specs.Parts.{words}
 use Rattle.lists.proofs.Functions.{inside-low, inside-high, within-off}
 use Rattle.model.specs.Table.{blockAt, phaseAt}

@@ -1,9 +1,8 @@
 -- `run_first` meets its contract. Assumes nothing.
 use borrow.Author.Needs.{needs}
-use Prim.Native.Nat.{_≤_}
 use mathlib.Core.Path.{_≡_, sym, ap, _∙_}
 use mathlib.Core.Bool.{true, false}
-use mathlib.Core.Option.{Option, none, some}
+use mathlib.Core.Option.{none, some}
 use native.Mathlib.Omega.{arith}
 use lib.ListN.{length, take}
 use lib.Seq.{length-take-le}
@@ -11,7 +10,7 @@ use borrow.Author.Tests.{not-true, not-false}
 use Rattle.lists.specs.Functions.{inside}
 use Rattle.lists.proofs.Functions.{inside-low, inside-high}
 use Rattle.model.specs.Board.{opened}
-use Rattle.model.specs.Table.{tableSize, tableWords}
+use Rattle.model.specs.Table.{tableWords}
 use Rattle.model.specs.Script.{firstOf, boardLine}
 use Rattle.laws.proofs.Tables.{length-table}
 use Rattle.script.proofs.Reading.{held-none, held-some}

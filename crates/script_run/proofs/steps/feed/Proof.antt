@@ -1,10 +1,9 @@
 -- `feed` meets its contract. Assumes nothing.
 use borrow.Author.Needs.{needs}
-use Prim.Native.Nat.{_≤_, _-_, _+_, _<_}
-use mathlib.Core.Path.{_≡_, refl, sym, ap, _∙_}
+use Prim.Native.Nat.{_-_}
+use mathlib.Core.Path.{_≡_, refl, _∙_}
 use native.Mathlib.Omega.{arith}
-use lib.ListN.{length, take}
-use Rattle.model.specs.Kinds.{concur}
+use lib.ListN.{length}
 use Rattle.script_run.specs.Feeding.{fed}
 use Rattle.script_run.specs.Meaning.{stateOf, Ready, Took}
 use Rattle.script_run.proofs.States.{fed-more}

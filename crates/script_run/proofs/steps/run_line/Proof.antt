@@ -1,7 +1,7 @@
 -- `run_line` meets its contract. Assumes nothing.
 use borrow.Author.Needs.{needs}
-use mathlib.Core.Path.{_≡_, refl, sym, ap, _∙_}
-use mathlib.Core.Bool.{true, false, not}
+use mathlib.Core.Path.{sym, ap}
+use mathlib.Core.Bool.{false, not}
 use native.Mathlib.Omega.{arith}
 use lib.Dec.{eqb}
 use Rattle.script.proofs.Printing.{line-short}

@@ -1,11 +1,11 @@
 -- `take_byte` meets its contract. Assumes nothing.
 use borrow.Author.Needs.{needs}
-use Prim.Native.Nat.{_≤_, _<_, _+_}
-use mathlib.Core.Path.{_≡_, refl, sym, ap, _∙_}
+use Prim.Native.Nat.{_≤_}
+use mathlib.Core.Path.{sym, ap, _∙_}
 use native.Mathlib.Omega.{arith}
 use lib.ListN.{length, take}
 use Rattle.model.specs.Kinds.{concur}
-use Rattle.script_run.specs.Feeding.{State, silent, byteFed}
+use Rattle.script_run.specs.Feeding.{silent, byteFed}
 use Rattle.script_run.specs.Meaning.{stateOf}
 use Rattle.script_run.proofs.Held.{wrote-nothing}
 use Rattle.script_run.proofs.States.{byte-over, byte-ends, byte-kept, silent-ran}
