@@ -173,12 +173,12 @@ start-held table kept = refl
 pub took-some : {p : Progress} {table kept bytes : List ℕ} {r : FedStruct} {table′ kept′ out : List ℕ} → Took p table kept bytes r table′ kept′ out
     → (r .taken < length bytes → length out < r .written + 44) → 44 ≤ length out → 0 < length bytes → 0 < r .taken
 unfolding fed
-took-some {p} {table} {kept} {bytes} {r} {table′} {kept′} {out} t full room some-bytes = on (eqb (r .taken) 0)
+took-some {p} {table} {kept} {bytes} {r} {table′} {kept′} {out} t full room filled = on (eqb (r .taken) 0)
     (λ z. let none-taken : r .taken ≡ 0 = eqb-true (r .taken) 0 z in
-    let none-written : r .written ≡ 0 = sym (length-take-le (r .written) out (t .room)) ∙ ap (λ f. length (f .printed)) (sym (t .fed) ∙ ap (λ k. fed concur (stateOf p table kept) (take k bytes)) none-taken ∙ nothing (stateOf p table kept)) in
+    let printed : fed concur (stateOf p table kept) (take (r .taken) bytes) .printed ≡ [] =
+    ap (λ k. fed concur (stateOf p table kept) (take k bytes) .printed) none-taken in
+    let none-written : r .written ≡ 0 =
+    sym (length-take-le (r .written) out (t .room)) ∙ ap length (ap (λ f. f .printed) (sym (t .fed)) ∙ printed) in
     let less = full (omega arith) in
     absurd (omega arith))
     (λ z. let n : r .taken ≡ 0 → ⊥ = eqb-false (r .taken) 0 z in omega arith)
-  where
-    nothing : (s : State) → fed concur s [] ≡ silent s
-    nothing s = refl

@@ -19,7 +19,7 @@ abbrev μ-loop : tie.MeasureT-loop
 
 loop-holds : tie.Need-loop-holds Inv-loop μ-loop
 loop-holds c =
-    let a = (c .before .before .before .before .args) in
+    let a = c .before .before .before .before .args in
     (start-ready (a .table .now) (a .kept .now) (c .before .before .before .before .pre .0) (c .before .before .before .before .pre .1 .0), (refl, (refl, (refl, (refl, c .before .before .before .before .pre .1 .1)))))
 
 read-some-requires : tie.Need-read-some-requires Inv-loop μ-loop
@@ -34,7 +34,7 @@ loop-less c = search needs
 loop-again : tie.Need-loop-again Inv-loop μ-loop
 loop-again c =
     let i = c .before .before .before .before .before .before .before .before .before .before .before .before .before .before .before .before .before .loop .inv in
-    let r = (c .before .before .before .before .before .before .before .before .before .before .before .read-some) in (
+    let r = c .before .before .before .before .before .before .before .before .before .before .before .read-some in (
       r .ensures,
       (
         r .kept .0 ∙ i .1 .0,
@@ -57,7 +57,7 @@ loop-less-2 c = search needs
 loop-again-2 : tie.Need-loop-again-2 Inv-loop μ-loop
 loop-again-2 c =
     let i = c .before .before .before .before .before .before .before .before .before .before .before .before .before .before .before .before .before .loop .inv in
-    let r = (c .before .before .before .before .before .before .before .before .before .before .before .read-some) in (
+    let r = c .before .before .before .before .before .before .before .before .before .before .before .read-some in (
       r .ensures,
       (
         r .kept .0 ∙ i .1 .0,

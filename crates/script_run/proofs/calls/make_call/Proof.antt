@@ -21,7 +21,7 @@ same-length c = search needs
 
 returns : tie.Need-returns
 returns c =
-    let a = (c .before .before .before .before .before .before .before .args) in
+    let a = c .before .before .before .before .before .before .before .args in
     let value = valueOf (words (0 ∷ 0 ∷ 0 ∷ 0 ∷ 0 ∷ 0 ∷ 0 ∷ a .argument ∷ [])) in
     call-plain (a .table .now) (callFor (a .kind) (a .member) (a .argument)) (begin (a .member) (a .member) 2 value)
     (call-write (a .kind) (a .member) (a .argument) (c .before .before .before .before .before .if1 .taken)) (begin-silent (a .member) (a .member) 2 value)
@@ -38,7 +38,7 @@ same-length-2 c = search needs
 
 returns-2 : tie.Need-returns-2
 returns-2 c =
-    let a = (c .before .before .before .before .before .before .before .before .args) in
+    let a = c .before .before .before .before .before .before .before .before .args in
     let value = valueOf (words (replicate 8 0)) in
     call-plain (a .table .now) (callFor (a .kind) (a .member) (a .argument)) (begin (a .member) (a .argument) 1 value)
     (call-read (a .kind) (a .member) (a .argument) (c .before .before .before .before .before .if2 .taken)) (begin-silent (a .member) (a .argument) 1 value)
@@ -52,7 +52,7 @@ same-length-3 c = search needs
 
 returns-3 : tie.Need-returns-3
 returns-3 c =
-    let a = (c .before .before .before .before .before .before .before .before .args) in
+    let a = c .before .before .before .before .before .before .before .before .args in
     rw (call-deliver (a .kind) (a .member) (a .argument) (c .before .before .before .before .if3 .taken))
     (c .before .before .deliver .ensures .0, (c .before .before .deliver .ensures .1 .0, c .before .before .deliver .ensures .1 .1 .1 .0))
 
@@ -67,7 +67,7 @@ same-length-4 c = search needs
 
 returns-4 : tie.Need-returns-4
 returns-4 c =
-    let a = (c .before .before .before .before .before .before .before .before .before .args) in
+    let a = c .before .before .before .before .before .before .before .before .before .args in
     call-plain (a .table .now) (callFor (a .kind) (a .member) (a .argument)) (crash (a .member))
     (call-crash (a .kind) (a .member) (a .argument) (c .before .before .before .before .before .before .before .if1 .left) (c .before .before .before .before .before .before .if2 .left) (c .before .before .before .before .before .if3 .left)) (crash-silent (a .member))
     (c .plain3 .result) (c .before .before .before .crash .result) (c .before .before .before .crash .last .0) (c .plain3 .ensures) (c .before .before .before .crash .ensures .0) (c .before .before .before .crash .ensures .1 .0)

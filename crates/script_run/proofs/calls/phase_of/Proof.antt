@@ -20,7 +20,7 @@ is-numbered-requires c κs = search needs
 
 phase-requires : tie.Need-phase-requires
 phase-requires c κs =
-    let a = (c .before .before .before .before .args) in
+    let a = c .before .before .before .before .args in
     let n = words (a .table .now) 0 in
     let e : inside n (a .member) ≡ true = sym (c .before .is-numbered .ensures) ∙ c .if1 .taken in
     ((c .before .before .before .before .pre), record { least = inside-low n (a .member) e; most = inside-high n (a .member) e })
@@ -31,7 +31,7 @@ returns c = search needs
 returns-2 : tie.Need-returns-2
 unfolding phaseWords
 returns-2 c =
-    let a = (c .before .before .before .before .args) in
+    let a = c .before .before .before .before .args in
     let l = a .table .now in
     let n = words l 0 in
     let e : inside n (a .member) ≡ false = sym (c .before .is-numbered .ensures) ∙ c .if1 .left in

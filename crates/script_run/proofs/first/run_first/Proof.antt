@@ -37,7 +37,7 @@ same-length c = search needs
 
 returns : tie.Need-returns
 returns c =
-    let a = (c .before .before .before .before .before .before .before .before .before .before .before .args) in
+    let a = c .before .before .before .before .before .before .before .before .before .before .before .args in
     let table = take (a .p .size) (a .table .now) in
     let o = firstOf (take (a .p .kept) (a .kept .now)) in
     let m = c .before .before .before .before .before .before .parse-members .result in
@@ -56,7 +56,7 @@ same-length-2 c = search needs
 
 returns-2 : tie.Need-returns-2
 returns-2 c =
-    let a = (c .before .before .before .before .before .before .before .before .before .before .before .before .before .args) in
+    let a = c .before .before .before .before .before .before .before .before .before .before .before .before .before .args in
     let table = take (a .p .size) (a .table .now) in
     let o = firstOf (take (a .p .kept) (a .kept .now)) in
     let m = c .before .before .before .before .before .before .before .before .parse-members .result in
@@ -101,7 +101,7 @@ same-length-4 c = search needs
 
 returns-3 : tie.Need-returns-3
 returns-3 c =
-    let a = (c .before .before .before .before .before .before .before .before .before .before .before .before .before .before .before .before .before .before .args) in
+    let a = c .before .before .before .before .before .before .before .before .before .before .before .before .before .before .before .before .before .before .args in
     let table = take (a .p .size) (a .table .now) in
     let o = firstOf (take (a .p .kept) (a .kept .now)) in
     let m = c .before .before .before .before .before .before .before .before .before .before .before .before .before .parse-members .result in

@@ -25,7 +25,7 @@ same-length-2 c = search needs
 
 returns : tie.Need-returns
 returns c =
-    let a = (c .before .before .before .before .before .before .before .before .before .before .before .args) in
+    let a = c .before .before .before .before .before .before .before .before .before .before .before .args in
     rw (line-first (a .p) (a .table .now) (a .kept .now) (c .before .before .before .before .before .before .before .if1 .taken)) (c .before .before .before .before .run-first .ensures)
 
 slice-relend-prefix-run-line : tie.Need-slice-relend-prefix-run-line
@@ -58,7 +58,7 @@ same-length-4 c = search needs
 
 returns-2 : tie.Need-returns-2
 returns-2 c =
-    let a = (c .before .before .before .before .before .before .before .before .before .before .before .before .args) in
+    let a = c .before .before .before .before .before .before .before .before .before .before .before .before .args in
     let p = a .p in
     let r = c .before .before .before .before .before .before .before .before .before .before .before .before .pre .0 in
     let n = c .before .before .before .before .before .before .before .before .if1 .left in

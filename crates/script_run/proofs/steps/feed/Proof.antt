@@ -21,7 +21,7 @@ abbrev μ-loop : tie.MeasureT-loop
 loop-holds : tie.Need-loop-holds Inv-loop μ-loop
 unfolding fed
 loop-holds c =
-    let a = (c .before .before .before .before .args) in
+    let a = c .before .before .before .before .args in
     (record { within = omega arith; room = omega arith; ready = (c .before .before .before .before .pre); fed = refl }, ((c .before .before .before .before .pre), refl))
 
 sub-if1 : tie.Need-sub-if1 Inv-loop μ-loop
@@ -55,8 +55,8 @@ loop-less c = search needs
 
 loop-again : tie.Need-loop-again Inv-loop μ-loop
 loop-again c =
-    let a = (c .before .before .before .before .before .before .before .before .before .before .before .before .before .before .before .before .before .before .before .args) in
-    let l = (c .before .before .before .before .before .before .before .before .before .before .before .before .before .before .loop) in
+    let a = c .before .before .before .before .before .before .before .before .before .before .before .before .before .before .before .before .before .before .before .args in
+    let l = c .before .before .before .before .before .before .before .before .before .before .before .before .before .before .loop in
     let i = l .inv .0 in
     let r = c .before .before .before .before .before .before .before .take-byte .ensures in
     let out = c .before .before .before .before .before .before .before .take-byte .last .1 .1 .1 .1 .0 in (

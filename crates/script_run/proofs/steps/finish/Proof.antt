@@ -18,7 +18,7 @@ use Rattle.script_run.proofs.steps.finish.Tie as tie
 
 returns : tie.Need-returns
 returns c =
-    let a = (c .before .before .before .before .before .args) in
+    let a = c .before .before .before .before .before .args in
     (omega arith, sym (last-over (a .p) (a .table .now) (a .kept .now) (c .if1 .taken)))
 
 begun-requires : tie.Need-begun-requires
@@ -26,7 +26,7 @@ begun-requires c κs = search needs
 
 returns-2 : tie.Need-returns-2
 returns-2 c =
-    let a = (c .before .before .before .before .before .before .before .args) in
+    let a = c .before .before .before .before .before .before .before .args in
     let r = c .before .before .before .before .before .before .before .pre .0 in
     let b = c .before .begun .result in
     let printed : List ℕ = lineRun concur (stateOf (a .p) (a .table .now) (a .kept .now)) .printed in
@@ -44,7 +44,7 @@ same-length-2 c = search needs
 
 returns-3 : tie.Need-returns-3
 returns-3 c =
-    let a = (c .before .before .before .before .before .before .before .before .before .before .before .before .before .before .args) in
+    let a = c .before .before .before .before .before .before .before .before .before .before .before .before .before .before .args in
     let r = c .before .before .before .before .before .before .before .before .before .before .before .before .before .before .pre .0 in
     let b = c .before .before .before .before .before .before .before .before .begun .result in
     let printed : List ℕ = lineRun concur (stateOf (a .p) (a .table .now) (a .kept .now)) .printed in

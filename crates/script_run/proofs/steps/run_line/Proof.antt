@@ -15,7 +15,7 @@ parse-line-requires c κs = search needs
 
 print-line-requires : tie.Need-print-line-requires
 print-line-requires c κs =
-    let a = (c .before .before .before .before .before .before .args) in
+    let a = c .before .before .before .before .before .before .args in
     omega (arith, line-short (a .step) 17 0 0 false false (omega arith) (omega arith) (omega arith) (omega arith), c .before .before .before .before .before .before .pre .1)
 
 same-length : tie.Need-same-length
@@ -23,7 +23,7 @@ same-length c = search needs
 
 returns : tie.Need-returns
 returns c =
-    let a = (c .before .before .before .before .before .before .before .before .before .args) in
+    let a = c .before .before .before .before .before .before .before .before .before .args in
     let e = step-malformed (a .step) (a .table .now) (a .line .now) (c .before .before .before .before .before .parse-line .result) (c .before .before .before .before .before .parse-line .ensures) (c .before .before .before .before .if1 .taken) in (
       ap (λ s. s .table) (sym e),
       rw e (wrote (c .before .before .print-line .ensures) (omega (arith, line-short (a .step) 17 0 0 false false (omega arith) (omega arith) (omega arith) (omega arith), c .before .before .before .before .before .before .before .before .before .pre .1))),
@@ -34,7 +34,7 @@ make-call-requires c κs = search needs
 
 phase-of-requires : tie.Need-phase-of-requires
 phase-of-requires c κs =
-    let a = (c .before .before .before .before .before .before .before .before .before .before .args) in
+    let a = c .before .before .before .before .before .before .before .before .before .before .args in
     let r = c .before .before .before .before .before .before .parse-line .result in
     rw (c .before .before .before .make-call .ensures .1 .1) (whole-after (a .table .now) (callFor (r .kind) (r .member) (r .argument)) (c .before .before .before .before .before .before .before .before .before .before .pre .0))
 
@@ -43,7 +43,7 @@ last-word-requires c κs = search needs
 
 print-line-requires-2 : tie.Need-print-line-requires-2
 print-line-requires-2 c κs =
-    let a = (c .before .before .before .before .before .before .before .before .before .before .before .before .before .before .args) in
+    let a = c .before .before .before .before .before .before .before .before .before .before .before .before .before .before .args in
     let d = c .before .before .before .before .before .before .before .make-call .result in
     let f = c .before .before .before .before .before .before .before .make-call .ok in
     let g = c .before .before .before .phase-of .ok in
@@ -58,7 +58,7 @@ same-length-3 c = search needs
 
 returns-2 : tie.Need-returns-2
 returns-2 c =
-    let a = (c .before .before .before .before .before .before .before .before .before .before .before .before .before .before .before .before .before .args) in
+    let a = c .before .before .before .before .before .before .before .before .before .before .before .before .before .before .before .before .before .args in
     let r = c .before .before .before .before .before .before .before .before .before .before .before .before .before .parse-line .result in
     let d = c .before .before .before .before .before .before .before .before .before .before .make-call .result in
     let m = c .before .before .before .before .before .before .before .before .before .before .make-call .ensures in

@@ -15,7 +15,7 @@ use Rattle.script_run.proofs.steps.take_byte.Tie as tie
 returns : tie.Need-returns
 unfolding stateOf
 returns c =
-    let a = (c .before .before .before .before .before .args) in
+    let a = c .before .before .before .before .before .args in
     let p = a .p in
     let r = c .before .before .before .before .before .pre .0 in
     let room : a .at ≤ length (a .out .now) = omega (arith, c .before .before .before .before .before .pre .1) in
@@ -37,7 +37,7 @@ same-length-3 c = search needs
 
 returns-2 : tie.Need-returns-2
 returns-2 c =
-    let a = (c .before .before .before .before .before .before .before .before .before .before .before .before .before .before .args) in
+    let a = c .before .before .before .before .before .before .before .before .before .before .before .before .before .before .args in
     rw (byte-ends (a .p) (a .table .now) (a .kept .now) (a .b) (c .before .before .before .before .before .before .before .before .before .if1 .left) (c .before .before .before .before .before .before .before .before .if2 .taken)) (c .before .before .before .before .end-line .ensures)
 
 keep-byte-requires : tie.Need-keep-byte-requires
@@ -48,7 +48,7 @@ same-length-4 c = search needs
 
 returns-3 : tie.Need-returns-3
 returns-3 c =
-    let a = (c .before .before .before .before .before .before .before .before .before .before .args) in
+    let a = c .before .before .before .before .before .before .before .before .before .before .args in
     let p = a .p in
     let r = c .before .before .before .before .before .before .before .before .before .before .pre .0 in
     let k = c .before .before .keep-byte .ensures in
