@@ -8,6 +8,6 @@ seed=20260601
 table_seconds=75
 crash_seconds=60
 
-bash tests/simulator/link.sh "$1/proved" target/staticlib/libboard.a target/staticlib/libmessages.a
-"$1/proved/capi" "$table_seconds" "$seed"
-"$1/proved/interleavings" "$crash_seconds"
+bash tests/simulator/link.sh "$1/linked" target/staticlib/libboard.a target/staticlib/libmessages.a
+"$1/linked/capi" "$table_seconds" "$seed"
+"$1/linked/interleavings" "$crash_seconds"
