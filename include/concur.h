@@ -7,7 +7,7 @@
  *   number  what was wrong
  *   ------  ---------------------------------------------------------------------------------------------------------------
  *        1  n, the number of members, is not 1 to 12
- *        2  the table, or the part of it that was lent, has the wrong length
+ *        2  the table, or the part of it that was lent, has the wrong length; from C also a value or a place for one
  *        3  a word of the table is out of range: a phase above 6, a crash mark above 1, a halt number not 0 or 21 to 27, a slot or
  *           member above n, a type above 2, the board's n not 1 to 12 (an empty table too), or a member in phase 1 to 5 whose slot
  *           or type is 0 or such as 7 refuses
@@ -59,7 +59,40 @@ extern "C" {
  */
 uint32_t concur_message_check(const uint8_t *bytes, size_t length, uint32_t n);
 
-/* The board. */
+/*
+ * The board: link target/staticlib/libboard.a.
+ *
+ * A board is a table of concur_board_words(n) words, which the caller keeps and lends to each call. `table` points to `words` words. No two
+ * things lent to one call may lie over each other, none of them is NULL, and nothing else changes them during the call.
+ *
+ * Each call but the first two checks the whole table first: 3 where it is empty or its n is not 1 to 12, 2 for another length, 3 for a
+ * word out of range. Then a `value` or `returned` of another length is 2, also for a read, which does not look at its value. Then come the
+ * numbers from 4 on.
+ */
+
+/* How many words the table of a board of n members has: 79 for 1, 9,781 for 12, and 0 where n is not 1 to 12. */
+uint32_t concur_board_words(uint32_t n);
+
+/* Opens a board: 0, or 1 or 2. None of the table's old words is looked at. */
+uint32_t concur_board_open(uint32_t *table, size_t words, uint32_t n);
+
+/*
+ * A member begins an operation on a slot: type 1 a read, 2 a write of `value`, which has 8 words. Answers 0, or 3, 2, 4, 5, 6, 7, 8 or 9.
+ * Four delivers then complete the operation.
+ */
+uint32_t concur_board_begin(uint32_t *table, size_t words, uint32_t member, uint32_t slot, uint32_t type, const uint32_t *value,
+                            size_t value_words);
+
+/*
+ * The next message to or from a member is delivered: 0, or 3, 2, 4 or 10. `returned` has 9 words: 1 and the value where one was returned, which is
+ * at the fourth deliver of an accepted read, else 0 and eight zeros. A refusal leaves it untouched. The word at table[1 + (member - 1) * b],
+ * b = 45 + 2 * n + 3 * n * n, is the member's phase: 0 idle, 1 submit sent, 2 reply sent, 3 commit sent, 4 accepted sent, 5 aborted sent,
+ * 6 halted, for the reason that stands two words further on.
+ */
+uint32_t concur_board_deliver(uint32_t *table, size_t words, uint32_t member, uint32_t *returned, size_t returned_words);
+
+/* A member crashes: nothing more is delivered to it. Answers 0, or 3, 2, 4 or 11. */
+uint32_t concur_board_crash(uint32_t *table, size_t words, uint32_t member);
 
 #ifdef __cplusplus
 }

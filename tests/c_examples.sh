@@ -1,13 +1,18 @@
 #!/usr/bin/env bash
-# Builds the C examples against the proved archive and runs them on good and damaged messages. The bytes and the expected numbers are
-# written here by hand, from the requirements ("Messages" and "Numbers by the place of the check"). Ends with 1 if any of them differs.
+# Builds the C examples against the proved archives that archives.sh made. Runs the message check on good and damaged messages, and the
+# gateway on good and refused words. The bytes and the expected numbers are written here by hand, from the requirements ("Messages" and
+# "Numbers by the place of the check"). Ends with 1 if any of them differs.
 set -eu
 cd "$(dirname "$0")/.."
 out=$(mktemp -d)
 trap 'rm -rf "$out"' EXIT
 
-rt staticlib messages
-cc -std=c99 -Wall -Wextra -Werror -Iinclude examples/check_messages.c target/staticlib/libmessages.a -o "$out/check_messages"
+# build PROGRAM CRATE: examples/PROGRAM.c with the archive of that crate.
+build() {
+    cc -std=c99 -Wall -Wextra -Werror -Iinclude "examples/$1.c" "target/staticlib/lib$2.a" -o "$out/$1"
+}
+build check_messages messages
+build gateway board
 
 tried=0 wrong=0
 
@@ -115,6 +120,23 @@ for word in '' -1 +1 2x 4294967296; do
     said=$("$out/check_messages" "$word" </dev/null 2>&1) || status=$?
     compare "n given as '$word'" '2 usage: check_messages N [FILE]' "$status $said"
 done
+
+# gateway EXPECTED STATUS WORDS..: what the gateway says, and its status.
+gateway() {
+    local expected=$1 right=$2 status=0 said
+    shift 2
+    said=$("$out/gateway" "$@" 2>&1) || status=$?
+    compare "gateway $*" "$right $expected" "$status $said"
+}
+gateway 'member 2 read slot 1: 77'            0 2 1 2 77
+gateway 'member 1 read slot 12: 4294967295'   0 12 12 1 4294967295
+gateway 'member 7 read slot 3: 0'             0 7 3 7 0
+gateway 'open refused: 1'                     1 0 1 2 77
+gateway 'open refused: 1'                     1 13 1 2 77
+gateway 'begin refused: 4'                    1 2 3 1 77
+gateway 'begin refused: 4'                    1 2 1 0 77
+gateway 'begin refused: 7'                    1 1 1 1 77
+gateway 'usage: gateway N WRITER READER VALUE' 2 2 1 2
 
 echo "C examples: $tried cases, $wrong wrong"
 [ "$wrong" -eq 0 ]

@@ -1,19 +1,19 @@
 #!/bin/bash
-# Usage: link.sh LIBRARY OUTDIR
-# Links capi and interleavings against a static library with the C interface.
-# All of the library but its concur_ names is hidden first, so that a Rust
+# Usage: link.sh OUTDIR LIBRARY..
+# Links capi and interleavings against static libraries that together have the
+# C interface. All of them but the concur_ names is hidden first, so that a Rust
 # library's own copy of std cannot clash with the programs' one.
 set -e
-if [ $# -ne 2 ]; then
-    echo "usage: link.sh LIBRARY OUTDIR"
+if [ $# -lt 2 ]; then
+    echo "usage: link.sh OUTDIR LIBRARY.."
     exit 2
 fi
-library=$(readlink -f "$1")
-mkdir -p "$2"
-out=$(readlink -f "$2")
-cd "$(dirname "$0")"
-ld -r --force-group-allocation --whole-archive "$library" -o "$out/whole.o"
+mkdir -p "$1"
+out=$(readlink -f "$1")
+shift
+ld -r --force-group-allocation --whole-archive "$@" -o "$out/whole.o"
 objcopy -w --keep-global-symbol='concur_*' "$out/whole.o" "$out/library.o"
 rm "$out/whole.o"
+cd "$(dirname "$0")"
 rustc -O --edition 2021 capi.rs -o "$out/capi" -C link-arg="$out/library.o"
 rustc -O --edition 2021 interleavings.rs -o "$out/interleavings" -C link-arg="$out/library.o"

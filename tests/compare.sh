@@ -1,0 +1,13 @@
+#!/usr/bin/env bash
+# Usage: compare.sh OUTDIR   (after archives.sh and simulator/build.sh OUTDIR)
+# The proved C interface beside the simulator made apart: random, boundary and damaged tables and messages, every word compared; then every
+# interleaving of three operations beside the reference, and as many with one crash as the time allows. Ends with 1 at the first difference.
+set -eu
+cd "$(dirname "$0")/.."
+seed=20260601
+table_seconds=75
+crash_seconds=60
+
+bash tests/simulator/link.sh "$1/linked" target/staticlib/libboard.a target/staticlib/libmessages.a
+"$1/linked/capi" "$table_seconds" "$seed"
+"$1/linked/interleavings" "$crash_seconds"
