@@ -25,7 +25,8 @@ use Rattle.model.specs.RecordWords.{recordSize, matrixWord, recordWords}
 use Rattle.model.specs.Table.{acceptedAt, lastAt, pendingAt, knownAt, firstAt, secondAt, blockSize, newestAt, entrySize, hostSize, hostAt, tableSize, memberWords, entryWords, hostWords, tableWords}
 use Rattle.model.specs.TableCalls.{openNumber, openWords}
 use Rattle.model.specs.Messages.{kindOf, numberBytes, byteIn, headed, recordByte, recordLength, recordBytes, fieldBytes, framed, encode}
-use Rattle.runs.specs.Case.{left, changed, opensOf, answerTo, caller, lastWord, line, printed, rowsOf, recordLine, unless, failingOf, takingOf, found, every, alike, Case, Holds, holds}
+use Rattle.model.specs.Script.{caller}
+use Rattle.runs.specs.Case.{left, changed, opensOf, answerTo, lastWord, line, printed, rowsOf, recordLine, unless, failingOf, takingOf, found, every, alike, Case, Holds, holds}
 use Rattle.runs.specs.Cases.{cases, example}
 
 pub all-pass : every holds cases ≡ true

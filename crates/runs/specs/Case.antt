@@ -17,6 +17,7 @@ use Rattle.model.specs.Board.{Board}
 use Rattle.model.specs.Runs.{Call, begin, deliver, crash, Seen, run, after}
 use Rattle.model.specs.Demand3.{Every}
 use Rattle.model.specs.Messages.{reply, commit, encode}
+use Rattle.model.specs.Script.{caller}
 use Rattle.model.specs.TableCalls.{openNumber, openWords, boardIn, tableAfter, tableRun}
 
 -- Scripts, as document 01's board program reads them.
@@ -84,11 +85,6 @@ pub record Case : Type 0 where
 unfoldable pub left : ℕ → Board → List Call → Board
 left n b [] = b
 left n b (call ∷ calls) = left n (after concur n b call) calls
-
-unfoldable pub caller : Call → ℕ
-caller (begin i r t v) = i
-caller (deliver i) = i
-caller (crash i) = i
 
 unfoldable pub lastWord : Option Value → List ℕ
 lastWord none = []
