@@ -228,21 +228,26 @@ fn whole(n: u32, member: u32, slot: u32) {
     print_three(&format!("a whole {}, n = {}", if member == slot { "write" } else { "read" }, n), &scene.times(&ways));
 }
 
-/// A long run of whole operations, member after member and slot after slot: the cost of a call in each tenth of it.
+/// A long run of whole operations, member after member and slot after slot: the cost of a call in each tenth of it. A tenth is timed in a
+/// hundred pieces, of which the middle one counts, so that a slow moment of the machine does not.
 fn long_run(n: u32, operations: u32) {
     let mut t = used_board(n);
-    let mut tenths = Vec::new();
-    for tenth in 0..10 {
+    let piece = operations / 1000;
+    let mut pieces = Vec::new();
+    for first in (0..operations).step_by(piece as usize) {
         let start = Instant::now();
-        for k in tenth * (operations / 10)..(tenth + 1) * (operations / 10) {
+        for k in first..first + piece {
             let (member, slot) = (k % n + 1, k / n % n + 1);
             begun(&mut t, member, slot);
             delivered(&mut t, member, 4);
         }
-        tenths.push(start.elapsed().as_nanos() as f64 / (operations / 10 * 5) as f64);
+        pieces.push(start.elapsed().as_nanos() as u32 / (5 * piece));
     }
-    let list: Vec<String> = tenths.iter().map(|ns| format!("{:.0}", ns)).collect();
-    println!("{} calls on one board, n = {}: nanoseconds of a call in each tenth {}", operations * 5, n, list.join(" "));
+    let tenths = pieces.chunks_mut(100).map(|tenth| {
+        tenth.sort();
+        tenth[50].to_string()
+    });
+    println!("{} calls on one board, n = {}: nanoseconds of a call in each tenth {}", operations * 5, n, tenths.collect::<Vec<_>>().join(" "));
 }
 
 fn main() {
