@@ -48,6 +48,16 @@ fn plain_write(bytes: &[u8], n: u32, out: &mut [u8], more: u32) -> u32 {
     number
 }
 
+#[inline(never)]
+fn plain_write_copied(bytes: &[u8], n: u32, out: &mut [u8], more: u32) -> u32 {
+    let m = plain::read(bytes, n);
+    let number = plain::write_copied(m, n, out.as_mut_ptr(), out.len());
+    for _ in 0..more {
+        plain::write_copied(m, n, out.as_mut_ptr(), out.len());
+    }
+    number
+}
+
 /// A record with no byte zero after its first three.
 fn a_record(n: u32) -> plain::Record {
     let mut r = plain::Record { member: 1, slot: n, operation: 1, count: 0x01020304, ..Default::default() };
@@ -89,6 +99,8 @@ fn used(answer: u32) {
     black_box(answer);
 }
 
+type Writer = fn(&[u8], u32, &mut [u8], u32) -> u32;
+
 // A message is read once for so many writings.
 const WRITINGS: u32 = 1000;
 
@@ -104,12 +116,14 @@ fn time(what: &str, bytes: &[u8], n: u32) {
         || used(plain_read(black_box(bytes), black_box(n))),
     );
     read.print(&name("read"));
-    let (mut a, mut b) = (vec![0u8; 1235], vec![0u8; 1235]);
-    let write = compare(
-        || used(our_write(black_box(bytes), black_box(n), black_box(&mut a), WRITINGS - 1)),
-        || used(plain_write(black_box(bytes), black_box(n), black_box(&mut b), WRITINGS - 1)),
-    );
-    write.each_of(WRITINGS).print(&name("write"));
+    for (call, plain_way) in [("write", plain_write as Writer), ("write, copied,", plain_write_copied)] {
+        let (mut a, mut b) = (vec![0u8; 1235], vec![0u8; 1235]);
+        let write = compare(
+            || used(our_write(black_box(bytes), black_box(n), black_box(&mut a), WRITINGS - 1)),
+            || used(plain_way(black_box(bytes), black_box(n), black_box(&mut b), WRITINGS - 1)),
+        );
+        write.each_of(WRITINGS).print(&name(call));
+    }
 }
 
 fn main() {

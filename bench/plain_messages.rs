@@ -8,11 +8,13 @@ pub const OUTCOME: u32 = 4;
 const LONGEST: usize = 12;
 
 #[derive(Clone, Copy, Default)]
+#[repr(C)]
 pub struct Row {
     pub counts: [u32; LONGEST],
 }
 
 #[derive(Clone, Copy, Default)]
+#[repr(C)]
 pub struct Record {
     pub member: u32,
     pub slot: u32,
@@ -23,6 +25,7 @@ pub struct Record {
 }
 
 #[derive(Clone, Copy, Default)]
+#[repr(C)]
 pub struct Message {
     #[allow(dead_code)]
     pub number: u32,
@@ -196,4 +199,11 @@ pub fn write(m: Message, n: u32, out: &mut [u8]) -> (u32, usize) {
         _ => out[4] = m.outcome as u8,
     }
     (0, length + 2)
+}
+
+/// The same through C's calling convention, in which a struct by value is copied for each call. Rust's own lends the caller's one where it
+/// sees that nothing changes it.
+#[inline(never)]
+pub extern "C" fn write_copied(m: Message, n: u32, out: *mut u8, room: usize) -> u32 {
+    write(m, n, unsafe { std::slice::from_raw_parts_mut(out, room) }).0
 }

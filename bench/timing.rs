@@ -1,4 +1,4 @@
-// Timing two ways of doing the same thing against each other.
+// Timing several ways of doing the same thing against each other.
 use std::time::Instant;
 
 const ROUNDS: usize = 60;
@@ -13,6 +13,7 @@ pub struct Pair {
 
 impl Pair {
     /// One of so many things that a call did.
+    #[allow(dead_code)]
     pub fn each_of(self, count: u32) -> Pair {
         Pair { ours: self.ours / count as f64, plain: self.plain / count as f64 }
     }
@@ -26,30 +27,42 @@ pub fn heading() {
     println!("{:<28} {:>9} {:>9} {:>8}", "nanoseconds of a call", "ours", "plain", "ratio");
 }
 
-fn nanoseconds(calls: usize, f: &mut impl FnMut()) -> u128 {
-    let start = Instant::now();
-    for _ in 0..calls {
-        f();
-    }
-    start.elapsed().as_nanos()
+/// So many calls, and the nanoseconds that they took.
+pub type Round<'a> = Box<dyn FnMut(usize) -> u128 + 'a>;
+
+pub fn round<'a>(mut f: impl FnMut() + 'a) -> Round<'a> {
+    Box::new(move |calls| {
+        let start = Instant::now();
+        for _ in 0..calls {
+            f();
+        }
+        start.elapsed().as_nanos()
+    })
 }
 
 /// Enough calls that a round is long against the clock's own cost.
-fn calls_of_a_round(f: &mut impl FnMut()) -> usize {
+fn calls_of_a_round(round: &mut Round) -> usize {
     let mut calls = 1;
-    while nanoseconds(calls, f) < ROUND_NANOSECONDS {
+    while round(calls) < ROUND_NANOSECONDS {
         calls *= 2;
     }
     calls
 }
 
-/// The best round of each. The rounds take turns, so that a slow moment of the machine falls on both.
-pub fn compare(mut ours: impl FnMut(), mut plain: impl FnMut()) -> Pair {
-    let calls = calls_of_a_round(&mut ours).max(calls_of_a_round(&mut plain));
-    let (mut best_ours, mut best_plain) = (u128::MAX, u128::MAX);
+/// The best round of each, in nanoseconds of a call. The rounds take turns, so that a slow moment of the machine falls on all.
+pub fn best(mut ways: Vec<Round>) -> Vec<f64> {
+    let calls: Vec<usize> = ways.iter_mut().map(calls_of_a_round).collect();
+    let mut best = vec![f64::INFINITY; ways.len()];
     for _ in 0..ROUNDS {
-        best_ours = best_ours.min(nanoseconds(calls, &mut ours));
-        best_plain = best_plain.min(nanoseconds(calls, &mut plain));
+        for (i, way) in ways.iter_mut().enumerate() {
+            best[i] = best[i].min(way(calls[i]) as f64 / calls[i] as f64);
+        }
     }
-    Pair { ours: best_ours as f64 / calls as f64, plain: best_plain as f64 / calls as f64 }
+    best
+}
+
+#[allow(dead_code)]
+pub fn compare(ours: impl FnMut(), plain: impl FnMut()) -> Pair {
+    let times = best(vec![round(ours), round(plain)]);
+    Pair { ours: times[0], plain: times[1] }
 }
