@@ -1,8 +1,8 @@
 -- What is said once of a member's block in the code's hands.
-use Prim.Native.Nat.{ℕ, _+_, _-_, _*_, _≤_, _<_}
+use Prim.Native.Nat.{ℕ, _+_, _-_, _*_, _<_}
 use native.Mathlib.Omega.{arith}
 use mathlib.Core.Path.{_≡_, refl, sym, ap, ap₂, _∙_}
-use mathlib.Core.Bool.{Bool, true, false, cond, _&&_}
+use mathlib.Core.Bool.{Bool, true, false, _&&_}
 use mathlib.Core.List.{List}
 use lib.Dec.{eqb}
 use borrow.Author.Tests.{eq-eqb, ne-eqb}
@@ -11,13 +11,13 @@ use Rattle.lists.specs.Functions.{put, pasted, from, within}
 use Rattle.lists.specs.Parts.{words, replaced}
 use Rattle.lists.proofs.Functions.{apart, put-at, put-off, from-from, from-pasted-at}
 use Rattle.model.specs.Records.{Rec, read, write, matrixWithin, recordWithin}
-use Rattle.model.specs.RecordWords.{valueAt, matrixAt, recordSize, rowOf, matrixOf, valueOf, recordOf}
-use Rattle.model.specs.Member.{Member, haltNumber, joined, ownRecord, passed, failed, replied, completed, dropped, tookOver, returnedBy}
+use Rattle.model.specs.RecordWords.{valueAt, matrixAt, recordSize, rowOf, matrixOf, valueOf, recordOf, recordWords}
+use Rattle.model.specs.Member.{Member, moved, haltNumber, joined, ownRecord, passed, failed, replied, completed, dropped, tookOver, returnedBy}
 use Rattle.model.specs.Board.{sentRecord}
-use Rattle.model.specs.Table.{phaseAt, crashedAt, haltAt, slotAt, operationAt, ownAt, acceptedAt, lastAt, pendingAt, knownAt, firstAt, secondAt, blockSize, memberOf}
-use Rattle.laws.proofs.Records.{matrixOf-same, valueOf-same, recordOf-parts}
+use Rattle.model.specs.Table.{phaseAt, haltAt, slotAt, operationAt, ownAt, acceptedAt, lastAt, pendingAt, knownAt, firstAt, secondAt, blockSize, memberOf}
+use Rattle.laws.proofs.Records.{recordOf-parts, recordOf-same, recordOf-words}
 use Rattle.laws.proofs.Replies.{matrix-all, value-all, joined-within, haltNumber-within}
-use Rattle.laws.proofs.Steps.{Holds, holds-set, holds-copied, count-of, kept}
+use Rattle.laws.proofs.Steps.{Holds, holds-set, holds-copied, count-of, kept, moved-by, pasted-off}
 use Rattle.rows.specs.declared.Row.{Row}
 use Rattle.rows.specs.Meaning.{matrixIn}
 use Rattle.records.specs.Meaning.{recordIn}
@@ -50,6 +50,38 @@ kept-held {n} {l} {at} r lay m e =
 pub completed-by : (m : Member) → completed m ≡ dropped (tookOver m)
 unfolding completed dropped tookOver
 completed-by m = refl
+
+-- the first message record written, and the phase
+pub first-noted-by : (n : ℕ) (w : ℕ → ℕ) (phase : ℕ) (first : Rec)
+    → memberOf n (put (pasted (firstAt n) (recordSize n) (words (recordWords n first)) w) phaseAt phase)
+    ≡ moved (memberOf n w) phase (memberOf n w .halt) (recordWithin n first) (memberOf n w .second)
+unfolding memberOf secondAt firstAt knownAt pendingAt lastAt acceptedAt from
+first-noted-by n w phase first =
+    moved-by n v w phase (w haltAt) (recordWithin n first) (recordOf n (from w (secondAt n)))
+    (put-at _ phaseAt phase)
+    (rest haltAt (omega arith))
+    (recordOf-same n (from v (firstAt n)) f (λ i h. head (firstAt n + i) (omega arith) ∙ from-pasted-at (firstAt n) (recordSize n) f w i h) ∙ recordOf-words n first)
+    (recordOf-same n (from v (secondAt n)) (from w (secondAt n)) (λ i h.
+    head (secondAt n + i) (omega arith) ∙ pasted-off (firstAt n) (recordSize n) f w (secondAt n + i) (omega arith)))
+    (λ i h. rest i (omega arith))
+  where
+    f : ℕ → ℕ
+    f = words (recordWords n first)
+
+    v : ℕ → ℕ
+    v = put (pasted (firstAt n) (recordSize n) f w) phaseAt phase
+
+    head : (i : ℕ) → (i ≡ phaseAt → ⊥) → v i ≡ pasted (firstAt n) (recordSize n) f w i
+    head i p = put-off (pasted (firstAt n) (recordSize n) f w) phaseAt phase i p
+
+    rest : (i : ℕ) → (i < firstAt n) × (i ≡ phaseAt → ⊥) → v i ≡ w i
+    rest i h = head i (h .1) ∙ pasted-off (firstAt n) (recordSize n) f w i (omega arith)
+
+-- the known matrix, loaded from its place
+pub known-loaded : (n : ℕ) (w : ℕ → ℕ) (known : List Row) {at : Places} → LayoutOf n at → matrixIn known ≡ matrixOf n (from w (at .known))
+    → matrixIn known ≡ memberOf n w .known
+unfolding memberOf
+known-loaded n w known lay e = e ∙ ap (λ k. matrixOf n (from w k)) (lay .known)
 
 -- The record that a member commits, as the code builds it, and what taking a reply comes to.
 

@@ -4,6 +4,7 @@ ghost use Rattle.lists.specs.Parts.{words};
 ghost use Rattle.model.specs.Member.{haltNumber};
 ghost use Rattle.model.specs.Table.{memberOf};
 ghost use Rattle.checks.specs.Needs.{Within};
+ghost use Rattle.rows.specs.Meaning.{matrixIn};
 ghost use Rattle.records.specs.Meaning.{recordIn};
 ghost use Rattle.member.specs.Needs.{Running};
 use crate::layout::SLOT_AT;
@@ -14,24 +15,25 @@ use checks::steps::check_25;
 use checks::steps::check_26;
 use checks::steps::check_27;
 use records::Record;
-use records::steps::load_matrix;
 use records::steps::load_row;
+use rows::Row;
 
-// The number of the first check that fails, 0 where the reply passes.
+// The number of the first check that fails, 0 where the reply passes. The known matrix is handed in, since the member's own record
+// needs it too.
 pub fn halt_number(
     block: &[u32],
     n: usize,
     member: usize,
+    known: [Row; 12],
     newest: Record,
     stored: Record,
     seals: u32,
 ) -> u32
-    requires { ⌜ (Running n (now block)) × (Within n member) ⌝ }
+    requires { ⌜ (Running n (now block)) × ((Within n member) × (matrixIn known ≡ memberOf n (words (now block)) .known)) ⌝ }
     ensures { λ r. ⌜ r ≡ haltNumber n member (memberOf n (words (now (block .entry)))) (recordIn newest) (recordIn stored) seals ⌝ }
 {
     let at = layout(n);
     let slot = block[SLOT_AT] as usize;
-    let known = load_matrix(block, at.known, n);
     let accepted = load_row(block, at.accepted, n);
     let latest = newest.matrix;
     let kept = stored.matrix;

@@ -8,8 +8,9 @@ ghost use Rattle.lists.specs.Functions.{from};
 ghost use Rattle.lists.specs.Parts.{words};
 ghost use Rattle.model.specs.Records.{write, recordWithin};
 ghost use Rattle.model.specs.RecordWords.{valueOf};
-ghost use Rattle.model.specs.Member.{moved, passed, failed, dropped, tookOver};
+ghost use Rattle.model.specs.Member.{moved, ownRecord, passed, failed, dropped, tookOver};
 ghost use Rattle.model.specs.Table.{memberOf};
+ghost use Rattle.rows.specs.Meaning.{matrixIn};
 ghost use Rattle.records.specs.Meaning.{recordIn};
 ghost use Rattle.checks.specs.Needs.{Within};
 ghost use Rattle.member.specs.Needs.{Block, Running};
@@ -25,10 +26,10 @@ use records::WRITE;
 use records::steps::MATRIX_AT;
 use records::steps::clear;
 use records::steps::copy_down;
-use records::steps::load_matrix;
 use records::steps::load_value;
 use records::steps::record_size;
 use records::steps::store_record;
+use rows::Row;
 
 // The value that an operation carries: the given one for a write, the last accepted own one, which lies at `last`, for a read.
 pub fn carried(block: &[u32], last: usize, operation: u32, value: [u32; 8]) -> [u32; 8]
@@ -64,27 +65,60 @@ pub fn fail(block: &mut [u32], n: usize, number: u32)
     block[HALT_AT] = number;
 }
 
-// A reply that passed: the member's own record, phase 3.
-pub fn pass(block: &mut [u32], n: usize, member: u32, newest: Record, stored: Record)
-    requires { ⌜ (Running n (now block)) × (Within n member) ⌝ }
-    ensures { λ _. ⌜ memberOf n (words (now (block .exit))) ≡ passed n member (memberOf n (words (now (block .entry)))) (recordWithin n (recordIn newest)) (recordWithin n (recordIn stored)) ⌝ }
+// The first message record and the phase written; the second stays.
+fn note_first(block: &mut [u32], n: usize, phase: u32, first: Record)
+    requires { ⌜ Block n (now block) ⌝ }
+    ensures { λ _. ⌜ memberOf n (words (now (block .exit))) ≡ moved (memberOf n (words (now (block .entry)))) phase (memberOf n (words (now (block .entry))) .halt) (recordWithin n (recordIn first)) (memberOf n (words (now (block .entry))) .second) ⌝ }
+{
+    let at = layout(n);
+    store_record(block, at.first, n, first);
+    block[PHASE_AT] = phase;
+}
+
+// The member's own record, by the reply's newest and the known matrix.
+fn own_record(block: &[u32], n: usize, member: u32, known: [Row; 12], newest: Record) -> Record
+    requires { ⌜ (Running n (now block)) × ((Within n member) × (matrixIn known ≡ memberOf n (words (now block)) .known)) ⌝ }
+    ensures { λ r. ⌜ recordWithin n (recordIn r) ≡ ownRecord n member (memberOf n (words (now (block .entry)))) (recordWithin n (recordIn newest)) ⌝ }
 {
     let at = layout(n);
     let slot = block[SLOT_AT];
     let count = block[OWN_AT + (slot as usize) - 1];
-    let known = load_matrix(block, at.known, n);
     let latest = newest.matrix;
     let value = load_value(block, at.pending);
     let matrix = joined_matrix(known, latest, n, member as usize, slot as usize, count);
-    let own = Record {
+    Record {
         member,
         slot,
         operation: block[OPERATION_AT],
         count,
         value,
         matrix,
-    };
+    }
+}
+
+// A reply that passed: the member's own record, the stored one beside it, phase 3.
+pub fn pass(
+    block: &mut [u32],
+    n: usize,
+    member: u32,
+    known: [Row; 12],
+    newest: Record,
+    stored: Record,
+)
+    requires { ⌜ (Running n (now block)) × ((Within n member) × (matrixIn known ≡ memberOf n (words (now block)) .known)) ⌝ }
+    ensures { λ _. ⌜ memberOf n (words (now (block .exit))) ≡ passed n member (memberOf n (words (now (block .entry)))) (recordWithin n (recordIn newest)) (recordWithin n (recordIn stored)) ⌝ }
+{
+    let own = own_record(block, n, member, known, newest);
     note(block, n, 3, own, stored);
+}
+
+// The same where the stored record is in its place.
+pub fn pass_noted(block: &mut [u32], n: usize, member: u32, known: [Row; 12], newest: Record)
+    requires { ⌜ (Running n (now block)) × ((Within n member) × (matrixIn known ≡ memberOf n (words (now block)) .known)) ⌝ }
+    ensures { λ _. ⌜ memberOf n (words (now (block .exit))) ≡ passed n member (memberOf n (words (now (block .entry)))) (recordWithin n (recordIn newest)) (memberOf n (words (now (block .entry))) .second) ⌝ }
+{
+    let own = own_record(block, n, member, known, newest);
+    note_first(block, n, 3, own);
 }
 
 // The end of an operation of which nothing is taken over.

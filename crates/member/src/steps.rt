@@ -32,6 +32,7 @@ use crate::parts::drop;
 use crate::parts::fail;
 use crate::parts::note;
 use crate::parts::pass;
+use crate::parts::pass_noted;
 use crate::parts::take_over;
 use records::READ;
 use records::Record;
@@ -194,12 +195,14 @@ pub fn reply(block: &mut [u32], n: usize, member: u32, newest: Record, stored: R
     requires { ⌜ (Running n (now block)) × (Within n member) ⌝ }
     ensures { λ _. ⌜ memberOf n (words (now (block .exit))) ≡ replied n member (memberOf n (words (now (block .entry)))) (recordWithin n (recordIn newest)) (recordWithin n (recordIn stored)) seals ⌝ }
 {
-    let number = halt_number(block, n, member as usize, newest, stored, seals);
+    let at = layout(n);
+    let known = load_matrix(block, at.known, n);
+    let number = halt_number(block, n, member as usize, known, newest, stored, seals);
     if number != 0 {
         fail(block, n, number);
         return;
     }
-    pass(block, n, member, newest, stored);
+    pass(block, n, member, known, newest, stored);
 }
 
 // The reply in the block's own two message records, whose seals held.
@@ -208,9 +211,15 @@ pub fn reply_noted(block: &mut [u32], n: usize, member: u32)
     ensures { λ _. ⌜ memberOf n (words (now (block .exit))) ≡ replied n member (memberOf n (words (now (block .entry)))) (memberOf n (words (now (block .entry))) .first) (memberOf n (words (now (block .entry))) .second) 3 ⌝ }
 {
     let at = layout(n);
+    let known = load_matrix(block, at.known, n);
     let newest = load_record(block, at.first, n);
     let stored = load_record(block, at.second, n);
-    reply(block, n, member, newest, stored, 3);
+    let number = halt_number(block, n, member as usize, known, newest, stored, 3);
+    if number != 0 {
+        fail(block, n, number);
+        return;
+    }
+    pass_noted(block, n, member, known, newest);
 }
 
 // The host's verdict, noted: phase 4 or 5.

@@ -1,6 +1,6 @@
 -- `begin_answer` meets its contract. Assumes nothing.
 use borrow.Author.Needs.{needs}
-use mathlib.Core.Path.{refl, sym, _∙_}
+use mathlib.Core.Path.{sym, _∙_}
 use borrow.Author.Tests.{eq-eqb, ne-eqb, le-leb, lt-leb}
 use Rattle.model.specs.Numbers.{beginAnswer}
 use Rattle.laws.proofs.Tests.{refused, allowed}

@@ -1,6 +1,5 @@
 -- `crash_answer` meets its contract. Assumes nothing.
 use borrow.Author.Needs.{needs}
-use mathlib.Core.Path.{refl}
 use borrow.Author.Tests.{eq-eqb, ne-eqb}
 use Rattle.model.specs.Numbers.{crashAnswer}
 use Rattle.laws.proofs.Tests.{refused, allowed}

@@ -1,6 +1,5 @@
 -- `deliver_answer` meets its contract. Assumes nothing.
 use borrow.Author.Needs.{needs}
-use mathlib.Core.Path.{refl}
 use borrow.Author.Tests.{eq-eqb, ne-eqb}
 use Rattle.model.specs.Numbers.{deliverAnswer}
 use Rattle.laws.proofs.Tests.{refused, allowed}

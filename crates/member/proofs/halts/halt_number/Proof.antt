@@ -3,7 +3,7 @@
 -- after the two reads
 use borrow.Author.Needs.{needs}
 use Prim.Native.Nat.{ℕ}
-use mathlib.Core.Path.{_≡_, refl, sym, ap, _∙_}
+use mathlib.Core.Path.{_≡_, sym, ap, _∙_}
 use mathlib.Core.Bool.{cond, not}
 use mathlib.Core.List.{List}
 use native.Mathlib.Omega.{arith}
@@ -19,7 +19,7 @@ use Rattle.rows.specs.Meaning.{rowIn, matrixIn}
 use Rattle.records.specs.declared.Record.{Record}
 use Rattle.records.specs.Meaning.{recordIn}
 use Rattle.laws.proofs.Tests.{refused, allowed}
-use Rattle.member.proofs.Sizes.{widened, running-slot, head-room, accepted-room, known-room}
+use Rattle.member.proofs.Sizes.{widened, running-slot, head-room, accepted-room}
 use Rattle.member.proofs.halts.halt_number.Statement.{statement}
 use Rattle.member.proofs.halts.halt_number.Tie as tie
 
@@ -41,15 +41,16 @@ unfolding haltNumber memberOf recordIn check21 check24
 by-parts n i w known accepted newest stored seals p q = rw (p, q)
 
 judged : (c : tie.After-load-row) (newest stored : Record) (i seals : ℕ) →
-    let g = c .before .before .before .before .before .args in
+    let g = c .before .before .before .before .args in
     haltNumber (g .n) i (memberOf (g .n) (words (g .block .now))) (recordIn newest) (recordIn stored) seals
-    ≡ number (g .n) i (words (g .block .now) slotAt) (c .before .load-matrix .result) (c .load-row .result) newest stored seals
+    ≡ number (g .n) i (words (g .block .now) slotAt) (g .known) (c .load-row .result) newest stored seals
+unfolding memberOf
 judged c newest stored i seals =
-    let g = c .before .before .before .before .before .args in
+    let g = c .before .before .before .before .args in
     let w : ℕ → ℕ = words (g .block .now) in
-    let at = c .before .before .before .layout .ensures in
-    by-parts (g .n) i w (c .before .load-matrix .result) (c .load-row .result) newest stored seals
-    (c .before .load-matrix .ensures ∙ ap (λ k. matrixOf (g .n) (from w k)) (at .known))
+    let at = c .before .before .layout .ensures in
+    by-parts (g .n) i w (g .known) (c .load-row .result) newest stored seals
+    (c .before .before .before .before .pre .1 .1)
     (c .load-row .ensures ∙ ap (λ k. rowOf (g .n) (from w k)) (at .accepted))
 
 layout-requires : tie.Need-layout-requires
@@ -61,19 +62,16 @@ shared-slice-read-slot c = omega (arith, head-room (c .before .before .before .a
 cast-slot : tie.Need-cast-slot
 cast-slot c = omega (arith, c .shared-slice-known2 .given 3)
 
-load-matrix-requires : tie.Need-load-matrix-requires
-load-matrix-requires c κs = (search needs, omega (arith, known-room (c .before .before .before .args .n), c .before .layout .ensures .known))
-
 load-row-requires : tie.Need-load-row-requires
-load-row-requires c κs = (search needs, omega (arith, accepted-room (c .before .before .before .before .args .n), c .before .before .layout .ensures .accepted))
+load-row-requires c κs = (search needs, omega (arith, accepted-room (c .before .before .before .args .n), c .before .layout .ensures .accepted))
 
 returns : tie.Need-returns
 returns c = sym (judged (c .before .before .before) _ _ _ _ ∙ rw (ne-eqb _ 3 (c .if1 .taken)))
 
 check-22-requires : tie.Need-check-22-requires
 check-22-requires c κs =
-    let g = (c .before .before .before .before .before .before .before .before .args) in
-    (c .before .before .before .before .before .before .before .before .pre .0 .block .most, running-slot (g .n) (g .block .now) (c .before .before .before .before .before .before .before .before .pre .0))
+    let g = (c .before .before .before .before .before .before .before .args) in
+    (c .before .before .before .before .before .before .before .pre .0 .block .most, running-slot (g .n) (g .block .now) (c .before .before .before .before .before .before .before .pre .0))
 
 returns-2 : tie.Need-returns-2
 returns-2 c =
@@ -84,9 +82,9 @@ returns-2 c =
 
 check-23-requires : tie.Need-check-23-requires
 check-23-requires c κs =
-    let g = (c .before .before .before .before .before .before .before .before .before .before .args) in
-    let p = (c .before .before .before .before .before .before .before .before .before .before .pre) in
-    (widened (g .n) (g .member) (p .0 .block .most) (p .1), widened (g .n) _ (p .0 .block .most) (running-slot (g .n) (g .block .now) (p .0)))
+    let g = (c .before .before .before .before .before .before .before .before .before .args) in
+    let p = (c .before .before .before .before .before .before .before .before .before .pre) in
+    (widened (g .n) (g .member) (p .0 .block .most) (p .1 .0), widened (g .n) _ (p .0 .block .most) (running-slot (g .n) (g .block .now) (p .0)))
 
 returns-3 : tie.Need-returns-3
 returns-3 c =
@@ -97,7 +95,7 @@ returns-3 c =
     ))
 
 shared-slice-read-if4 : tie.Need-shared-slice-read-if4
-shared-slice-read-if4 c = omega (arith, head-room (c .before .before .before .before .before .before .before .before .before .before .before .before .before .args .n))
+shared-slice-read-if4 c = omega (arith, head-room (c .before .before .before .before .before .before .before .before .before .before .before .before .args .n))
 
 returns-4 : tie.Need-returns-4
 returns-4 c =
@@ -110,8 +108,8 @@ returns-4 c =
 
 check-25-requires : tie.Need-check-25-requires
 check-25-requires c κs =
-    let g = (c .before .before .before .before .before .before .before .before .before .before .before .before .before .before .before .args) in
-    (c .before .before .before .before .before .before .before .before .before .before .before .before .before .before .before .pre .0 .block .most, running-slot (g .n) (g .block .now) (c .before .before .before .before .before .before .before .before .before .before .before .before .before .before .before .pre .0))
+    let g = (c .before .before .before .before .before .before .before .before .before .before .before .before .before .before .args) in
+    (c .before .before .before .before .before .before .before .before .before .before .before .before .before .before .pre .0 .block .most, running-slot (g .n) (g .block .now) (c .before .before .before .before .before .before .before .before .before .before .before .before .before .before .pre .0))
 
 returns-5 : tie.Need-returns-5
 returns-5 c =
@@ -139,9 +137,9 @@ returns-6 c =
 
 check-27-requires : tie.Need-check-27-requires
 check-27-requires c κs =
-    let g = (c .before .before .before .before .before .before .before .before .before .before .before .before .before .before .before .before .before .before .before .args) in
-    let p = (c .before .before .before .before .before .before .before .before .before .before .before .before .before .before .before .before .before .before .before .pre) in
-    (p .0 .block .most, widened (g .n) (g .member) (p .0 .block .most) (p .1))
+    let g = (c .before .before .before .before .before .before .before .before .before .before .before .before .before .before .before .before .before .before .args) in
+    let p = (c .before .before .before .before .before .before .before .before .before .before .before .before .before .before .before .before .before .before .pre) in
+    (p .0 .block .most, widened (g .n) (g .member) (p .0 .block .most) (p .1 .0))
 
 returns-7 : tie.Need-returns-7
 returns-7 c =
@@ -174,7 +172,6 @@ halt-number-spec =
     layout-requires
     shared-slice-read-slot
     cast-slot
-    load-matrix-requires
     load-row-requires
     returns
     check-22-requires

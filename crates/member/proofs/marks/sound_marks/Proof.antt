@@ -1,5 +1,4 @@
 -- `sound_marks` meets its contract. Assumes nothing.
-use mathlib.Core.Path.{refl}
 use borrow.Author.Tests.{eq-eqb, ne-eqb, le-leb, lt-leb}
 use Rattle.member.proofs.marks.sound_marks.Statement.{statement}
 use Rattle.member.proofs.marks.sound_marks.Tie as tie

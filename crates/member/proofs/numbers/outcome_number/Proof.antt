@@ -1,6 +1,5 @@
 -- `outcome_number` meets its contract. Assumes nothing.
 use borrow.Author.Needs.{needs}
-use mathlib.Core.Path.{refl}
 use mathlib.Core.Bool.{cond, not}
 use Rattle.lists.specs.Functions.{inside}
 use Rattle.lists.specs.Parts.{words}

@@ -1,0 +1,76 @@
+use borrow.Author.Needs.{needs}
+use native.Mathlib.Omega.{arith}
+use Rattle.model.specs.Table.{acceptedAt, lastAt, pendingAt, knownAt, firstAt, secondAt, blockSize, memberOf}
+use Rattle.lists.specs.Parts.{words}
+use Rattle.records.specs.Meaning.{recordIn}
+use Rattle.member.proofs.Laws.{own-built}
+use Rattle.member.proofs.parts.own_record.Statement.{statement}
+use Rattle.member.proofs.parts.own_record.Tie as tie
+
+layout-requires : tie.Need-layout-requires
+layout-requires c κs = search needs
+
+shared-slice-read-slot : tie.Need-shared-slice-read-slot
+unfolding blockSize secondAt firstAt knownAt pendingAt lastAt acceptedAt memberOf
+shared-slice-read-slot c = omega arith
+
+cast-count : tie.Need-cast-count
+unfolding memberOf
+cast-count c = record { fits = omega arith }
+
+add-count : tie.Need-add-count
+unfolding memberOf
+add-count c = record { fits = omega arith }
+
+sub-count : tie.Need-sub-count
+sub-count c = search needs
+
+mul-count : tie.Need-mul-count
+unfolding memberOf
+mul-count c = record { fits = omega arith }
+
+shared-slice-read-count : tie.Need-shared-slice-read-count
+unfolding blockSize secondAt firstAt knownAt pendingAt lastAt acceptedAt memberOf
+shared-slice-read-count c = omega arith
+
+load-value-requires : tie.Need-load-value-requires
+unfolding blockSize secondAt firstAt knownAt pendingAt lastAt acceptedAt memberOf
+load-value-requires c κs = omega arith
+
+cast-joined-matrix : tie.Need-cast-joined-matrix
+unfolding memberOf
+cast-joined-matrix c = record { fits = omega arith }
+
+joined-matrix-requires : tie.Need-joined-matrix-requires
+unfolding memberOf
+joined-matrix-requires c κs = (c .before .before .before .before .before .before .pre .0 .block .most, (c .before .before .before .before .before .before .pre .1 .0, c .before .before .before .before .before .before .pre .0 .slot))
+
+shared-slice-read-t13 : tie.Need-shared-slice-read-t13
+unfolding blockSize secondAt firstAt knownAt pendingAt lastAt acceptedAt memberOf
+shared-slice-read-t13 c = omega arith
+
+returns : tie.Need-returns
+unfolding memberOf recordIn
+returns c =
+    let a = (c .before .before .before .before .before .before .before .before .args) in
+    let p = (c .before .before .before .before .before .before .before .before .pre) in
+    let at = c .before .before .before .before .before .before .layout .ensures in
+    own-built (a .n) (a .member) (words (a .block .now)) (recordIn (a .newest)) (c .before .before .load-value .result) (a .known) (c .before .joined-matrix .result)
+    (p .1 .0) (p .0 .slot) (rw (at .pending) at (c .before .before .load-value .ensures)) (p .1 .1) (c .before .joined-matrix .ensures)
+
+pub own-record-spec : {M : Type 1} → statement M
+own-record-spec =
+    tie.close
+    (tie.spec
+    layout-requires
+    shared-slice-read-slot
+    cast-count
+    add-count
+    sub-count
+    mul-count
+    shared-slice-read-count
+    load-value-requires
+    cast-joined-matrix
+    joined-matrix-requires
+    shared-slice-read-t13
+    returns)
