@@ -1,12 +1,15 @@
 -- What is said once of records by value.
-use Prim.Native.Nat.{ℕ, _+_, _*_, _≤_, _<_}
+use Prim.Native.Nat.{ℕ, _+_, _*_, _≤_, _<_, min}
 use mathlib.Core.Path.{_≡_, refl, sym, ap, _∙_}
 use native.Mathlib.Omega.{arith}
+use mathlib.Core.Bool.{cond}
+use lib.Dec.{ltb}
+use borrow.Author.Tests.{ltb-true, ltb-false}
 use mathlib.Core.List.{List}
 use lib.ListN.{length, getD, set, replicate, length-set}
-use Rattle.lists.specs.Functions.{numbered, pasted}
+use Rattle.lists.specs.Functions.{numbered, pasted, put}
 use Rattle.lists.specs.Parts.{words, replaced}
-use Rattle.lists.proofs.Functions.{numbered-blank, pasted-one, pasted-join, from-at}
+use Rattle.lists.proofs.Functions.{on, put-same, pasted-more, pasted-above, numbered-blank, pasted-one, pasted-join, from-at}
 use Rattle.lists.proofs.Parts.{words-set, words-zeros, words-more, replaced-by}
 use Rattle.model.specs.Records.{zeroValue, opening, zeroRecord}
 use Rattle.model.specs.RecordWords.{recordSize, valueOf, matrixWord, recordWords}
@@ -90,3 +93,34 @@ module _ (n : ℕ) (r : Record) (l : List ℕ) (a : ℕ) (fits : a + recordSize 
       ∙ pasted-join a 4 8 wanted (words (r .value)) (words l) value-place)
       ∙ pasted-join a 12 (n * n) wanted (matrixWord n (matrixIn (r .matrix))) (words l) matrix-place
       ∙ ap (λ k. pasted a k wanted (words l)) (sym (length-recordWords n (recordIn r))))
+
+-- A row of n counts, of which i were looked at: those past the first n change nothing.
+
+pub none-yet : (n : ℕ) → 0 ≡ min 0 n
+none-yet n = omega arith
+
+pub count-stored : (i n at : ℕ) (g w v u : ℕ → ℕ) → v ≡ pasted at (min i n) g w → u ≡ cond (ltb i n) (put v (at + i) (g i)) v
+    → u ≡ pasted at (min (i + 1) n) g w
+count-stored i n at g w v u e f = on (ltb i n)
+    (λ p.
+    let h = ltb-true i n p in
+    let a : min i n ≡ i = omega arith in
+    let b : i + 1 ≡ min (i + 1) n = omega arith in
+    let s : u ≡ put v (at + i) (g i) = rw p at f in
+    s ∙ ap (λ v. put v (at + i) (g i)) (e ∙ ap (λ k. pasted at k g w) a) ∙ pasted-more at i g w ∙ ap (λ k. pasted at k g w) b)
+    (λ p.
+    let h = ltb-false i n p in
+    let a : min i n ≡ min (i + 1) n = omega arith in
+    let s : u ≡ v = rw p at f in
+    s ∙ e ∙ ap (λ k. pasted at k g w) a)
+
+pub count-loaded : (i n : ℕ) (g v : ℕ → ℕ) (x : ℕ) → v ≡ pasted 0 (min i n) g (λ k. 0) → x ≡ cond (ltb i n) (g i) 0
+    → put v i x ≡ pasted 0 (min (i + 1) n) g (λ k. 0)
+count-loaded i n g v x e f = on (ltb i n)
+    (λ p. count-stored i n 0 g (λ k. 0) v (put v i x) e (rw p (ap (put v i) (rw p at f) ∙ ap (λ k. put v k (g i)) (let a : i ≡ 0 + i = omega arith in a))))
+    (λ p.
+    let h = ltb-false i n p in
+    let a : min i n ≡ min (i + 1) n = omega arith in
+    let zero : v i ≡ 0 = ap (λ v. v i) e ∙ pasted-above 0 (min i n) g (λ k. 0) i (omega arith) in
+    let same : x ≡ v i = (let s : x ≡ 0 = rw p at f in s) ∙ sym zero in
+    ap (put v i) same ∙ put-same v i ∙ e ∙ ap (λ k. pasted 0 k g (λ k. 0)) a)

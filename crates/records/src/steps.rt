@@ -1,8 +1,10 @@
 // Records in table words, for the crates above: each function asks what its callers prove.
 ghost use mathlib.Core.Path.{_≡_};
+ghost use mathlib.Core.Bool.{cond};
+ghost use lib.Dec.{ltb};
 ghost use Prim.Native.Nat.{_+_, _*_, _≤_};
 ghost use lib.ListN.{length, replicate, take, drop};
-ghost use Rattle.lists.specs.Functions.{from, pasted};
+ghost use Rattle.lists.specs.Functions.{from, pasted, put};
 ghost use Rattle.lists.specs.Parts.{words, replaced};
 ghost use Rattle.model.specs.Table.{soundRecord};
 ghost use Rattle.model.specs.RecordWords.{rowOf, matrixOf, valueOf, matrixWord, recordSize, recordOf, recordWords};
@@ -37,14 +39,26 @@ pub fn load_value(t: &[u32], at: usize) -> [u32; 8]
     value
 }
 
+// Count i of a row of n, from 0 on; zero past the first n.
+fn count_at(t: &[u32], at: usize, n: usize, i: usize) -> u32
+    requires { ⌜ at + n ≤ length (now t) ⌝ }
+    ensures { λ r. ⌜ r ≡ cond (ltb i n) (words (now (t .entry)) (at + i)) 0 ⌝ }
+{
+    if n <= i {
+        return 0;
+    }
+    t[at + i]
+}
+
+// All twelve counts in turn: a loop of n rounds is compiled to a call of memcpy, which costs more than these few words.
 pub fn load_row(t: &[u32], at: usize, n: usize) -> Row
     requires { ⌜ (n ≤ 12) × (at + n ≤ length (now t)) ⌝ }
     ensures { λ r. ⌜ rowIn r ≡ rowOf n (from (words (now (t .entry))) at) ⌝ }
 {
     let mut row = Row::ZERO;
     let mut i = 0;
-    while i < n {
-        row.counts[i] = t[at + i];
+    while i < 12 {
+        row.counts[i] = count_at(t, at, n, i);
         i += 1;
     }
     row
@@ -91,13 +105,24 @@ pub fn store_value(t: &mut [u32], at: usize, value: [u32; 8])
     }
 }
 
+// Count i of a row of n stored; those past the first n are not.
+fn store_count(t: &mut [u32], at: usize, n: usize, i: usize, count: u32)
+    requires { ⌜ at + n ≤ length (now t) ⌝ }
+    ensures { λ _. ⌜ words (now (t .exit)) ≡ cond (ltb i n) (put (words (now (t .entry))) (at + i) count) (words (now (t .entry))) ⌝ }
+{
+    if n <= i {
+        return;
+    }
+    t[at + i] = count;
+}
+
 fn store_row(t: &mut [u32], at: usize, n: usize, row: Row)
     requires { ⌜ (n ≤ 12) × (at + n ≤ length (now t)) ⌝ }
     ensures { λ _. ⌜ words (now (t .exit)) ≡ pasted at n (words (row .counts)) (words (now (t .entry))) ⌝ }
 {
     let mut i = 0;
-    while i < n {
-        t[at + i] = row.counts[i];
+    while i < 12 {
+        store_count(t, at, n, i, row.counts[i]);
         i += 1;
     }
 }

@@ -1,5 +1,4 @@
 -- `is_numbered` meets its contract. Assumes nothing.
-use mathlib.Core.Path.{_≡_, refl, sym}
 use borrow.Author.Tests.{le-leb, lt-leb}
 use Rattle.lists.specs.Functions.{inside}
 use Rattle.records.proofs.is_numbered.Statement.{statement}

@@ -1,5 +1,4 @@
 -- `is_operation` meets its contract. Assumes nothing.
-use mathlib.Core.Path.{_≡_, refl, sym}
 use borrow.Author.Tests.{eq-eqb, ne-eqb}
 use Rattle.model.specs.Kinds.{isOperation}
 use Rattle.records.proofs.is_operation.Statement.{statement}

@@ -1,37 +1,34 @@
--- `load_row` meets its contract: the first i counts are the words passed, the others zero. Assumes nothing.
 use borrow.Author.Needs.{needs}
-use Prim.Native.Nat.{_-_, _≤_}
-use mathlib.Core.Path.{_≡_, refl, sym, _∙_}
+use mathlib.Core.Path.{_≡_, refl, sym, ap, _∙_}
 use native.Mathlib.Omega.{arith}
+use Prim.Native.Nat.{_-_, _≤_, min}
 use lib.ListN.{length, length-set}
 use Rattle.lists.specs.Functions.{from, pasted}
 use Rattle.lists.specs.Parts.{words}
 use Rattle.lists.proofs.Functions.{pasted-none}
-use Rattle.lists.proofs.Parts.{words-zeros, words-more}
+use Rattle.lists.proofs.Parts.{words-zeros, words-set}
 use Rattle.rows.proofs.Laws.{row-read}
+use Rattle.records.proofs.Laws.{none-yet, count-loaded}
 use Rattle.records.proofs.steps.load_row.Statement.{statement}
 use Rattle.records.proofs.steps.load_row.Tie as tie
 
 abbrev Inv-loop : tie.InvT-loop
-Inv-loop t at n row₀ i₀ row i = (i ≤ n) × ((length (row .counts) ≡ 12) × (words (row .counts) ≡ pasted 0 i (from (words t) at) (λ k. 0)))
+Inv-loop t at n row₀ i₀ row i = (i ≤ 12) × ((length (row .counts) ≡ 12) × (words (row .counts) ≡ pasted 0 (min i n) (from (words t) at) (λ k. 0)))
 
 abbrev μ-loop : tie.MeasureT-loop
-μ-loop t at n row₀ i₀ row i = n - i
+μ-loop t at n row₀ i₀ row i = 12 - i
 
 loop-holds : tie.Need-loop-holds Inv-loop μ-loop
-loop-holds c = (search needs, (refl, words-zeros 12 ∙ sym (pasted-none 0 _ _)))
+loop-holds c =
+    let a = (c .before .args) in
+    let g = from (words (a .t .now)) (a .at) in
+    (search needs, (refl, words-zeros 12 ∙ sym (pasted-none 0 g (λ k. 0)) ∙ ap (λ k. pasted 0 k g (λ k. 0)) (none-yet (a .n))))
 
-add-row : tie.Need-add-row Inv-loop μ-loop
-add-row c = search needs
+count-at-requires : tie.Need-count-at-requires Inv-loop μ-loop
+count-at-requires c κs = search needs
 
 mul-row : tie.Need-mul-row Inv-loop μ-loop
 mul-row c = search needs
-
-shared-slice-read-row : tie.Need-shared-slice-read-row Inv-loop μ-loop
-shared-slice-read-row c = search needs
-
-mul-row-2 : tie.Need-mul-row-2 Inv-loop μ-loop
-mul-row-2 c = search needs
 
 element-write-row : tie.Need-element-write-row Inv-loop μ-loop
 element-write-row c = search needs
@@ -45,20 +42,21 @@ loop-less c = search needs
 loop-again : tie.Need-loop-again Inv-loop μ-loop
 unfolding from
 loop-again c =
-    let a = c .before .before .before .args in
-    let l = c .before .before .loop in (
+    let a = (c .before .before .before .before .args) in
+    let l = (c .before .before .loop) in (
       search needs,
       (
         simp length-set (omega arith),
-        words-more (l .row .counts) 0 (l .i) (l .i) _ (from (words (a .t .now)) (a .at)) (λ k. 0) (l .inv .1 .1) (omega arith) (omega arith) refl,
+        words-set (l .row .counts) (l .i) (c .count-at .result) (omega arith)
+            ∙ count-loaded (l .i) (a .n) (from (words (a .t .now)) (a .at)) (words (l .row .counts)) (c .count-at .result) (l .inv .1 .1) (c .count-at .ensures),
       ),
     )
 
 returns : tie.Need-returns Inv-loop μ-loop
 returns c =
-    let a = c .before .before .args in
-    let l = c .before .loop in
-    let e : l .i ≡ a .n = omega arith in
+    let a = (c .before .before .before .args) in
+    let l = (c .before .loop) in
+    let e : min (l .i) (a .n) ≡ a .n = omega arith in
     row-read (l .row) (a .n) (from (words (a .t .now)) (a .at)) (omega arith) (rw e at (l .inv .1 .1))
 
 pub load-row-spec : {M : Type 1} → statement M
@@ -68,10 +66,8 @@ load-row-spec =
     Inv-loop
     μ-loop
     loop-holds
-    add-row
+    count-at-requires
     mul-row
-    shared-slice-read-row
-    mul-row-2
     element-write-row
     add-i
     loop-less

@@ -1,6 +1,5 @@
 -- `sound_record` meets its contract. Assumes nothing.
-use Prim.Native.Nat.{ℕ, _+_}
-use mathlib.Core.Path.{_≡_, refl, sym, _∙_}
+use Prim.Native.Nat.{_+_}
 use borrow.Author.Tests.{le-leb, lt-leb}
 use Rattle.lists.specs.Parts.{words}
 use Rattle.model.specs.Table.{soundRecord}
