@@ -7,12 +7,14 @@ mod board;
 mod c_lib;
 mod c_sim;
 mod messages;
+mod random;
 mod rng;
 
 use board::*;
 use messages::Message;
 use rng::Rng;
 use std::time::{Duration, Instant};
+use random::random_record;
 
 const GUARD: u32 = 0xA5A5_A5A5; // must stay around everything lent
 const UNTOUCHED: u32 = 0x5C5C_5C5C; // what stands in `returned` before a call
@@ -550,23 +552,6 @@ fn both_check(bytes: &[u8], n: u32, tally: &mut Tally) {
     }
     tally.messages += 1;
     tally.checks[by_sim as usize] += 1;
-}
-
-fn random_record(rng: &mut Rng, n: u32) -> Record {
-    let mut record = zero_record(n);
-    record.member = rng.between(1, n);
-    record.slot = rng.between(1, n);
-    record.op_type = rng.between(1, 2);
-    record.count = rng.word();
-    for i in 0..8 {
-        record.sheet[i] = rng.word();
-    }
-    for row in record.matrix.iter_mut() {
-        for count in row.iter_mut() {
-            *count = rng.word();
-        }
-    }
-    record
 }
 
 fn good_message(rng: &mut Rng, n: u32) -> Vec<u8> {

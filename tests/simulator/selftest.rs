@@ -5,6 +5,7 @@
 mod board;
 mod messages;
 mod reference;
+mod random;
 mod rng;
 mod script;
 
@@ -12,6 +13,7 @@ use board::*;
 use messages::Message;
 use reference::{Book, Call};
 use rng::Rng;
+use random::random_record;
 
 fn main() {
     let args: Vec<String> = std::env::args().collect();
@@ -501,23 +503,6 @@ fn message_grounds() {
     assert_eq!(messages::write(&Message::Outcome(3), n, &mut out), Err(15));
     assert_eq!(out, [7u8; 59]);
     println!("ok message grounds");
-}
-
-fn random_record(rng: &mut Rng, n: u32) -> Record {
-    let mut record = zero_record(n);
-    record.member = rng.between(1, n);
-    record.slot = rng.between(1, n);
-    record.op_type = rng.between(1, 2);
-    record.count = rng.word();
-    for i in 0..8 {
-        record.sheet[i] = rng.word();
-    }
-    for row in record.matrix.iter_mut() {
-        for count in row.iter_mut() {
-            *count = rng.word();
-        }
-    }
-    record
 }
 
 fn message_round_trips(rng: &mut Rng) {
