@@ -9,7 +9,7 @@ use mathlib.Core.Option.{Option, none, some}
 use lib.Dec.{eqb}
 use borrow.Author.Tests.{eqb-true, eqb-false}
 use Rattle.lists.specs.Functions.{put, within, inside}
-use Rattle.lists.proofs.Functions.{on, apart, put-same}
+use Rattle.lists.proofs.Functions.{on, apart, put-at, put-same}
 use Rattle.model.specs.Rows.{Row, zeroRow, zeroMatrix}
 use Rattle.model.specs.Records.{Value, Rec, read, write, zeroValue, zeroRecord, opening}
 use Rattle.model.specs.Kinds.{Kind}
@@ -17,13 +17,15 @@ use Rattle.model.specs.Member.{Member, idle, judged, completed, dropped,
 use Rattle.model.specs.Host.{Entry, wins, entryAfter, storedAfter}
 use Rattle.model.specs.Board.{Board, noEntry, openingEntry, opened, withMember, submitTaken, replyTaken, sentRecord, commitTaken}
 use Rattle.model.specs.Board.{outcomeTaken, boardDelivered, boardReturned}
-use Rattle.model.specs.Runs.{Call, begin, deliver, crash, Seen, answerOf, done, doneReturns, after, seenAt, run}
+use Rattle.model.specs.Runs.{Call, begin, deliver, crash, Seen, answerOf, done, doneReturns, after, seenAt, run, boards}
+use Rattle.model.specs.ReplyChecks.{CheckedAt, Checked}
 use Rattle.model.specs.Reference.{RefMember, Reference, refIdle, refOpened, refWith, refMoved, refSubmit, refReply, refCommit, refAbort}
 use Rattle.model.specs.Reference.{refAccept, refEnd, refReturned, refDelivered, refAnswer, refDone, refDoneReturns, refAfter, refSeen, refRun}
 use Rattle.model.proofs.Answers.{BeginTaken, begin-taken, deliver-taken, by-phase}
 use Rattle.model.proofs.Order.{_≼_, Ordered, up, ≼-refl}
 use Rattle.model.proofs.Invariant.{marked, SlotInv, MemberInv, Inv}
-use Rattle.model.proofs.InvariantMember.{begin-keeps, reply-keeps, abort-keeps, completed-keeps, dropped-keeps, crash-keeps}
+use Rattle.model.proofs.Phases.{Delivers, StepMoves, step-moves, from-two}
+use Rattle.model.proofs.InvariantMember.{checks-pass, begin-keeps, reply-keeps, abort-keeps, completed-keeps, dropped-keeps, crash-keeps}
 use Rattle.model.proofs.InvariantHost.{submit-keeps, accept-keeps}
 
 -- The opening.
@@ -176,6 +178,28 @@ module _ (kind : Kind) where
   run-as-reference inv [] = refl
   run-as-reference inv (call ∷ calls) = λ t. same-seen inv call t ∷ run-as-reference (step-keeps inv call) calls t
 
+  -- Every reply passes all checks, and a deliver that leads to phase 3 is one.
+
+  checked-at : {n : ℕ} {b : Board} {ref : Reference} (inv : Inv n b ref) (call : Call) → CheckedAt n b call (seenAt kind n b call)
+  checked-at inv (begin i r t v) = tt
+  checked-at {n} {b} {ref} inv (deliver i) = rw (same-seen inv (deliver i)) (λ zero.
+      let d : Delivers (λ k. ref .members k .phase) i (refSeen kind n ref (deliver i)) = step-moves kind n ref (deliver i) .taken zero in
+      record {
+        checks = checks-pass inv i;
+        only = λ three. inv .members i .phase
+            ∙ from-two (d .next) (sym (ap (λ f. f i) (d .phases) ∙ put-at (λ k. ref .members k .phase) i (d .to)) ∙ three);
+      })
+  checked-at inv (crash i) = tt
+
+  run-checked : {n : ℕ} {b : Board} {ref : Reference} → Inv n b ref → (calls : List Call)
+      → Checked n calls (boards kind n b calls) (run kind n b calls)
+  unfolding run boards
+  run-checked inv [] = tt
+  run-checked inv (call ∷ calls) = (checked-at inv call, run-checked (step-keeps inv call) calls)
+
 -- For every kind of board, every n and every list of calls.
 pub as-reference : (kind : Kind) (n : ℕ) (calls : List Call) → run kind n (opened n) calls ≡ refRun kind n refOpened calls
 as-reference kind n calls = run-as-reference kind (opened-inv n) calls
+
+pub replies-checked : (kind : Kind) (n : ℕ) (calls : List Call) → Checked n calls (boards kind n (opened n) calls) (run kind n (opened n) calls)
+replies-checked kind n calls = run-checked kind (opened-inv n) calls

@@ -10,10 +10,15 @@ use Rattle.lists.specs.Functions.{inside}
 use Rattle.lists.proofs.Functions.{on, apart}
 use Rattle.model.specs.Kinds.{Kind}
 use Rattle.model.specs.Numbers.{deliverAnswer}
+use Rattle.model.specs.Board.{Board}
 use Rattle.model.specs.Runs.{Call, begin, deliver, crash, Seen}
 use Rattle.model.specs.Reference.{Reference, refIdle, refOpened, refAnswer, refDone, refDoneReturns, refAfter, refSeen, refRun, refLeft}
 use Rattle.model.specs.History.{Watch, begunOp, watchCall, watchStep, watchFrom, nothingYet, watched, acceptedOf, lastWritten}
-use Rattle.model.specs.Demand3.{Every, Demand3}
+use Rattle.lists.specs.Every.{Every}
+use Rattle.model.specs.ReplyChecks.{Checked}
+use Rattle.model.specs.Demand3.{Demand3}
+use Rattle.model.proofs.Phases.{run-moves}
+use Rattle.model.proofs.Positions.{positions-of}
 use Rattle.model.proofs.HistoryInvariant.{Agrees}
 use Rattle.model.proofs.HistoryLists.{split-both, every, serial-of, realTime-of}
 use Rattle.model.proofs.HistorySteps.{refused-step, begin-step, crash-step, deliver-step}
@@ -76,21 +81,25 @@ module _ (kind : Kind) (n : ℕ) where
         no-halt (refAfter kind n ref call) (watchStep w call (refSeen kind n ref call)) x calls,
       )
 
--- so demand 3 holds of the reference's own run, and of every run that is seen as the reference's is
-pub history-of-reference : (kind : Kind) (n : ℕ) (calls : List Call) → Demand3 kind n calls (refRun kind n refOpened calls)
-unfolding watched
-history-of-reference kind n calls =
-    let w = watched calls (refRun kind n refOpened calls) in
+-- so demand 3 holds of the reference's own run, and of every run that is seen as the reference's is, if its replies passed the checks
+history-of-reference : (kind : Kind) (n : ℕ) (calls : List Call) (boards : List Board)
+    → Checked n calls boards (refRun kind n refOpened calls) → Demand3 kind n calls boards (refRun kind n refOpened calls)
+unfolding watched refOpened refIdle
+history-of-reference kind n calls boards c =
+    let seen = refRun kind n refOpened calls in
+    let w = watched calls seen in
     let h = agree-left kind n refOpened nothingYet agree-opened calls in
     record {
       asReference = refl;
       noHalt = no-halt kind n refOpened nothingYet agree-opened calls;
+      checked = c;
       history = h .book .accepted;
       serial = serial-of (w .decided) (h .past .reads);
       realTime = realTime-of (w .decided) (h .past .realTime);
       aborts = every (λ o j. j .verdict) (w .decided) (h .past .judged);
+      positions = positions-of calls seen (run-moves kind n refOpened calls);
     }
 
-pub demand3-as-reference : (kind : Kind) (n : ℕ) (calls : List Call) (seen : List Seen) → seen ≡ refRun kind n refOpened calls
-    → Demand3 kind n calls seen
-demand3-as-reference kind n calls seen e = rw e (history-of-reference kind n calls)
+pub demand3-as-reference : (kind : Kind) (n : ℕ) (calls : List Call) (boards : List Board) (seen : List Seen)
+    → seen ≡ refRun kind n refOpened calls → Checked n calls boards seen → Demand3 kind n calls boards seen
+demand3-as-reference kind n calls boards seen e c = rw e (history-of-reference kind n calls boards (rw e at c))

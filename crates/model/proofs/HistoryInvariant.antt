@@ -8,7 +8,8 @@ use mathlib.Core.Option.{Option, some}
 use Rattle.model.specs.Records.{Value, read}
 use Rattle.model.specs.Reference.{Operation, RefMember, Reference, operationOf, refReturned}
 use Rattle.model.specs.History.{Op, Submit, Watch, decidedOp, acceptedOf, lastWritten, contested}
-use Rattle.model.specs.Demand3.{Every, RealTime}
+use Rattle.lists.specs.Every.{Every}
+use Rattle.model.specs.Demand3.{RealTime}
 
 -- A member's operation. Before the verdict, "overtaken" is what `contested` will say of it whenever the verdict comes.
 pub record Running (phase : ℕ) (overtaken : Bool) (operation : Operation) (o : Op) (submits : List Submit) (steps : ℕ) : Type 0 where

@@ -11,7 +11,8 @@ use borrow.Author.Tests.{eqb-true, eqb-false, le-ltb, lt-ltb}
 use Rattle.lists.proofs.Functions.{on, fails}
 use Rattle.model.specs.Records.{Value, write}
 use Rattle.model.specs.History.{Op, Submit, endedOp, ended, acceptedOf, lastWritten, contested}
-use Rattle.model.specs.Demand3.{Every, Serial, RealTime}
+use Rattle.lists.specs.Every.{Every}
+use Rattle.model.specs.Demand3.{Serial, RealTime}
 use Rattle.model.proofs.HistoryInvariant.{Right, Reads, Pending}
 
 -- What holds on either side of a test holds of its outcome, or of its two outcomes.
@@ -81,12 +82,13 @@ realTime-of (o ∷ ops) h = split RealTime (o .accepted)
 -- The newest operation of member i ended at a step: only its end and what it returned are new.
 
 module _ (i at : ℕ) (v : Option Value) where
-  pub every-ended : (P : Op → Type 0) → ((o : Op) → P o → P (endedOp at v o)) → (ops : List Op) → Every P ops → Every P (ended i at v ops)
+  pub every-ended : (P Q : Op → Type 0) → ((o : Op) → o .given .member ≡ i → P o → Q (endedOp at v o)) → ((o : Op) → P o → Q o)
+      → (ops : List Op) → Every P ops → Every Q (ended i at v ops)
   unfolding ended
-  every-ended P f [] h = tt
-  every-ended P f (o ∷ ops) h = split (Every P) (eqb (o .given .member) i)
-      (λ e. (f o (h .0), h .1))
-      (λ e. (h .0, every-ended P f ops (h .1)))
+  every-ended P Q f g [] h = tt
+  every-ended P Q f g (o ∷ ops) h = split (Every Q) (eqb (o .given .member) i)
+      (λ e. (f o (eqb-true (o .given .member) i e) (h .0), every g ops (h .1)))
+      (λ e. (g o (h .0), every-ended P Q f g ops (h .1)))
 
   pub contested-ended : (o : Op) (submits : List Submit) → contested (endedOp at v o) submits ≡ contested o submits
   unfolding contested endedOp
@@ -138,4 +140,4 @@ module _ (i at : ℕ) (v : Option Value) where
   realTime-ended [] b h = tt
   realTime-ended (o ∷ ops) b h = split RealTime (eqb (o .given .member) i)
       (λ e. (every (λ p l y z. omega arith) ops (b .1), h .1))
-      (λ e. (every-ended (Keeps o) (λ p l. l) ops (h .0), realTime-ended ops (b .1) (h .1)))
+      (λ e. (every-ended (Keeps o) (Keeps o) (λ p m l. l) (λ p l. l) ops (h .0), realTime-ended ops (b .1) (h .1)))

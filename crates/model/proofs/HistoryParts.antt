@@ -12,7 +12,7 @@ use Rattle.lists.proofs.Functions.{on, apart, both, first, second, fails}
 use Rattle.model.specs.Records.{Value, write}
 use Rattle.model.specs.Reference.{Operation, RefMember, refOvertaken, submittedOn, operationOf}
 use Rattle.model.specs.History.{Op, Submit, decidedOp, endedOp, ended, acceptedOf, lastWritten, contested}
-use Rattle.model.specs.Demand3.{Every}
+use Rattle.lists.specs.Every.{Every}
 use Rattle.model.proofs.HistoryInvariant.{Running, RunningAt, Pending, Judged, Past, Book}
 use Rattle.model.proofs.HistoryLists.{split, every, contested-within, contested-past, every-ended, contested-ended, last-ended, givens-ended, reads-ended, realTime-ended}
 
@@ -83,9 +83,13 @@ module _ {steps : ℕ} {submits : List Submit} {ops : List Op} (h : Past steps s
   unfolding endedOp
   past-ended i v p = record {
     taken = taken-later;
-    judged = every-ended i (steps + 1) v (Judged (steps + 1) submits)
-        (λ o j. record { began = j .began; decided = j .decided; verdict = j .verdict ∙ ap not (sym (contested-ended i (steps + 1) v o submits)) })
-        ops (every judged-later ops (h .judged));
+    judged = every-ended i (steps + 1) v (Judged steps submits) (Judged (steps + 1) submits)
+        (λ o m j. record {
+          began = omega (arith, j .began);
+          decided = omega (arith, j .decided);
+          verdict = j .verdict ∙ ap not (sym (contested-ended i (steps + 1) v o submits));
+        })
+        judged-later ops (h .judged);
     reads = reads-ended i (steps + 1) v ops p (h .reads);
     realTime = realTime-ended i (steps + 1) v ops (every (λ o j. omega arith) ops (h .judged)) (h .realTime);
   }

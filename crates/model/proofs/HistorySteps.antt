@@ -97,7 +97,7 @@ module _ (ref : Reference) (w : Watch) (h : Agrees ref w) (i : ℕ) where
 phase-at : (f : ℕ → RefMember) (i : ℕ) (m : RefMember) → put f i m i .phase ≡ m .phase
 phase-at f i m = ap (λ x. x .phase) (put-at f i m)
 
-watch-verdict : (w : Watch) (at i : ℕ) (s : Seen) (a : Bool) → s .phases i ≡ cond a 4 5
+pub watch-verdict : (w : Watch) (at i : ℕ) (s : Seen) (a : Bool) → s .phases i ≡ cond a 4 5
     → watchDeliver w at i s ≡ record {
       steps = at;
       running = w .running;

@@ -15,6 +15,7 @@ use Rattle.model.specs.Kinds.{Kind, barred}
 use Rattle.model.specs.Member
 use Rattle.model.specs.Member.{Member, begun, replied, passed, ownRecord, joined, haltNumber, completed, dropped, crashedOf, judged, moved, tookOver}
 use Rattle.model.specs.Member.{check21, check22, check23, check24, check25, check26, check27}
+use Rattle.model.specs.ReplyChecks.{AllPass}
 use Rattle.model.specs.Host.{Entry}
 use Rattle.model.specs.Board.{Board, withMember, boardBegun, replyTaken, outcomeTaken, boardCrashed}
 use Rattle.model.specs.Reference.{RefMember, Reference, changed, refBegun, refMoved, refMarked, refAbort, refEnded, refWith}
@@ -125,41 +126,35 @@ begin-keeps {kind} {n} {b} {ref} inv i r t v taken =
 
 -- The reply's checks pass: a reply that was the host's honest one passes, however long ago it was sent.
 
-all-pass : (n i : ℕ) (m : Member) (newest stored : Rec)
-    → check22 n i (m .slot) (m .known) (newest .matrix) ≡ true
-    → check23 i (m .slot) (m .accepted) (newest .matrix) ≡ true
-    → check24 (m .slot) stored ≡ true
-    → check25 n (m .slot) (stored .matrix) (newest .matrix) ≡ true
-    → check26 n (m .slot) (m .known) (newest .matrix) ≡ true
-    → check27 n i (m .slot) (m .accepted) (newest .matrix) ≡ true
-    → haltNumber n i m newest stored 3 ≡ 0
-unfolding haltNumber check21
-all-pass n i m newest stored c22 c23 c24 c25 c26 c27 = rw (c22, c23, c24, c25, c26, c27)
+all-pass : (n i : ℕ) (m : Member) → AllPass n i m → haltNumber n i m (m .first) (m .second) 3 ≡ 0
+unfolding haltNumber
+all-pass n i m c = rw (c .pass21, c .pass22, c .pass23, c .pass24, c .pass25, c .pass26, c .pass27)
 
 either : (a : Bool) {b : Bool} → b ≡ true → (a || b) ≡ true
 either true h = refl
 either false h = h
 
 pub checks-pass : {n : ℕ} {b : Board} {ref : Reference} (inv : Inv n b ref) (i : ℕ) → b .members i .phase ≡ 2
-    → haltNumber n i (b .members i) (b .members i .first) (b .members i .second) 3 ≡ 0
-unfolding check22 check23 check24 check25 check26 check27
-checks-pass {n} {b} {ref} inv i e =
-    all-pass n i m (m .first) (m .second)
-    (each-all n (λ k. eqb k i || leb (m .known r k) (m .first .matrix r k))
-    (λ k p q. either (eqb k i) (le-leb (m .known r k) (m .first .matrix r k) (reply .knownBelow k))))
-    (eq-eqb (m .first .matrix r i) (m .accepted r) (reply .ownEntry))
-    (eq-eqb (m .second .member) r (reply .secondMember))
-    (rw (
-      ≼-matrixBelow n (m .second .matrix) (m .first .matrix) (reply .secondBelow),
-      eq-eqb (m .second .matrix r r) (m .first .matrix r r) (reply .secondSame),
-    ))
-    (each-all n (λ j. eqb j r || comparable n (m .known j) (m .first .matrix j))
-    (λ j p q. either (eqb j r)
-    (ordered-comparable n (m .known j) (m .first .matrix j) (inv .chain j (m .known j) (m .first .matrix j) (old .knownTops j) (reply .firstTops j)))))
-    (each-all n (λ j. eqb j r || leb (m .first .matrix j i) (m .accepted j))
-    (λ j p q. either (eqb j r) (le-leb (m .first .matrix j i) (m .accepted j)
-    (let h : m .first .matrix j i ≤ b .host j .newest .matrix j i = inv .top j (m .first .matrix j) (reply .firstTops j) i in
-    let c : b .host j .newest .matrix j i ≡ m .accepted j = inv .counts j i ∙ not-four j in omega arith))))
+    → AllPass n i (b .members i)
+unfolding check21 check22 check23 check24 check25 check26 check27
+checks-pass {n} {b} {ref} inv i e = record {
+  pass21 = refl;
+  pass22 = each-all n (λ k. eqb k i || leb (m .known r k) (m .first .matrix r k))
+      (λ k p q. either (eqb k i) (le-leb (m .known r k) (m .first .matrix r k) (reply .knownBelow k)));
+  pass23 = eq-eqb (m .first .matrix r i) (m .accepted r) (reply .ownEntry);
+  pass24 = eq-eqb (m .second .member) r (reply .secondMember);
+  pass25 = rw (
+    ≼-matrixBelow n (m .second .matrix) (m .first .matrix) (reply .secondBelow),
+    eq-eqb (m .second .matrix r r) (m .first .matrix r r) (reply .secondSame),
+  );
+  pass26 = each-all n (λ j. eqb j r || comparable n (m .known j) (m .first .matrix j))
+      (λ j p q. either (eqb j r) (ordered-comparable n (m .known j) (m .first .matrix j)
+      (inv .chain j (m .known j) (m .first .matrix j) (old .knownTops j) (reply .firstTops j))));
+  pass27 = each-all n (λ j. eqb j r || leb (m .first .matrix j i) (m .accepted j))
+      (λ j p q. either (eqb j r) (le-leb (m .first .matrix j i) (m .accepted j)
+      (let h : m .first .matrix j i ≤ b .host j .newest .matrix j i = inv .top j (m .first .matrix j) (reply .firstTops j) i in
+      let c : b .host j .newest .matrix j i ≡ m .accepted j = inv .counts j i ∙ not-four j in omega arith)));
+}
   where
     m : Member
     m = b .members i
@@ -179,7 +174,7 @@ checks-pass {n} {b} {ref} inv i e =
 pub reply-keeps : {n : ℕ} {b : Board} {ref : Reference} (inv : Inv n b ref) (i : ℕ) → b .members i .phase ≡ 2
     → Inv n (replyTaken n b i) (refWith ref i (refMoved (ref .members i) 3))
 unfolding replyTaken replied passed ownRecord joined refMoved
-reply-keeps {n} {b} {ref} inv i e = rw (checks-pass inv i e)
+reply-keeps {n} {b} {ref} inv i e = rw (all-pass n i m (checks-pass inv i e))
     (touched inv i (passed n i m (m .first) (m .second)) (refMoved (ref .members i) 3)
     (stepped 3 (m .halt) (ownRecord n i m (m .first)) (m .second) (ref .members i .noted) _ _ (λ j a p. p) old (omega arith) (omega arith) (omega arith)
     (λ q. old .mark (omega arith) (omega arith))

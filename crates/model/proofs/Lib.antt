@@ -7,6 +7,8 @@ pub mod InvariantHost
 pub mod AsReference
 pub mod HistoryInvariant
 pub mod HistoryLists
+pub mod Phases
+pub mod Positions
 pub mod HistoryParts
 pub mod HistorySteps
 pub mod History

@@ -4,17 +4,15 @@ use mathlib.Core.Path.{_≡_}
 use mathlib.Core.Bool.{Bool, true, false, not}
 use mathlib.Core.List.{List, [], _∷_, map}
 use mathlib.Core.Option.{Option, none, some}
+use Rattle.lists.specs.Every.{Every}
 use Rattle.model.specs.Records.{Value, read}
 use Rattle.model.specs.Kinds.{Kind}
 use Rattle.model.specs.Board.{Board, opened}
 use Rattle.model.specs.Runs.{Call, Seen, run}
 use Rattle.model.specs.Reference.{Operation, Reference, refOpened, refRun, refLeft}
 use Rattle.model.specs.History.{Op, Watch, watched, acceptedOf, lastWritten, contested}
-
--- P holds of each element
-abbrev pub Every : {A : Type 0} → (A → Type 0) → List A → Type 0
-Every P [] = Unit {0}
-Every P (x ∷ xs) = P x × Every P xs
+use Rattle.model.specs.Positions.{Positions}
+use Rattle.model.specs.ReplyChecks.{Checked}
 
 -- Of accepted operations, newest first: each read that has completed returned the value of the last write to its slot before it in the
 -- order of acceptance, or the opening one.
@@ -28,12 +26,15 @@ abbrev pub RealTime : List Op → Type 0
 RealTime [] = Unit {0}
 RealTime (o ∷ before) = Every (λ p. 0 < o .endAt → o .endAt < p .beginAt → ⊥) before × RealTime before
 
--- The claim about a run, whose parts are seen from outside: `seen` is what was seen at each of `calls`.
-pub record Demand3 (kind : Kind) (n : ℕ) (calls : List Call) (seen : List Seen) : Type 0 where
+-- The claim about a run: `seen` is what was seen from outside at each of `calls`. Only `checked` looks inside, at the board on which each
+-- call was made.
+pub record Demand3 (kind : Kind) (n : ℕ) (calls : List Call) (boards : List Board) (seen : List Seen) : Type 0 where
   -- "Equal to the book at each call: the answer, every member's phase after it, and the sheet returned, all 8 words, or none."
   pub asReference : seen ≡ refRun kind n refOpened calls
   -- nobody halts
   pub noHalt : Every (λ s. (k : ℕ) → s .phases k ≡ 6 → ⊥) seen
+  -- though every reply a member took went through all of the checks
+  pub checked : Checked n calls boards seen
   -- the accepted operations are the reference's history, in the order of acceptance
   pub history : map (λ o. o .given) (acceptedOf (watched calls seen .decided)) ≡ refLeft kind n refOpened calls .history
   -- and they form a serial history that keeps the order of real time
@@ -41,3 +42,5 @@ pub record Demand3 (kind : Kind) (n : ℕ) (calls : List Call) (seen : List Seen
   pub realTime : RealTime (acceptedOf (watched calls seen .decided))
   -- an operation that reached its verdict was aborted exactly when the host took another submit for its slot in between
   pub aborts : Every (λ o. o .accepted ≡ not (contested o (watched calls seen .submits))) (watched calls seen .decided)
+  -- the positions that these speak of are the steps at which the things happened, and none is left out
+  pub positions : Positions calls seen (watched calls seen)

@@ -8,6 +8,8 @@ pub mod Board
 pub mod Runs
 pub mod Reference
 pub mod History
+pub mod Positions
+pub mod ReplyChecks
 pub mod Demand3
 pub mod RecordWords
 pub mod Table

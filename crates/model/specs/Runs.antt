@@ -54,3 +54,8 @@ seenAt kind n b call = record {
 unfoldable pub run : Kind → ℕ → Board → List Call → List Seen
 run kind n b [] = []
 run kind n b (call ∷ calls) = seenAt kind n b call ∷ run kind n (after kind n b call) calls
+
+-- the board on which each call is made
+unfoldable pub boards : Kind → ℕ → Board → List Call → List Board
+boards kind n b [] = []
+boards kind n b (call ∷ calls) = b ∷ boards kind n (after kind n b call) calls

@@ -60,3 +60,8 @@ tableSeen kind l call = record {
 unfoldable pub tableRun : Kind → List ℕ → List Call → List Seen
 tableRun kind l [] = []
 tableRun kind l (call ∷ calls) = tableSeen kind l call ∷ tableRun kind (tableAfter kind l call) calls
+
+-- the board that the table holds on which each call is made
+unfoldable pub tableBoards : Kind → List ℕ → List Call → List Board
+tableBoards kind l [] = []
+tableBoards kind l (call ∷ calls) = boardIn l ∷ tableBoards kind (tableAfter kind l call) calls

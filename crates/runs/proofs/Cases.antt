@@ -20,7 +20,7 @@ use Rattle.model.specs.Member.{idle, begun, answered, check21, check22, check23
 use Rattle.model.specs.Host.{submitted, wins, entryAfter, storedAfter}
 use Rattle.model.specs.Board.{openingEntry, opened, withMember, boardBegun, submitTaken, replyTaken, sentRecord, commitTaken, outcomeTaken, boardDelivered, boardReturned, boardCrashed}
 use Rattle.model.specs.Runs.{answerOf, done, doneReturns, after, seenAt, run}
-use Rattle.model.specs.Demand3.{Every}
+use Rattle.lists.specs.Every.{Every}
 use Rattle.model.specs.RecordWords.{recordSize, matrixWord, recordWords}
 use Rattle.model.specs.Table.{acceptedAt, lastAt, pendingAt, knownAt, firstAt, secondAt, blockSize, newestAt, entrySize, hostSize, hostAt, tableSize, memberWords, entryWords, hostWords, tableWords}
 use Rattle.model.specs.TableCalls.{openNumber, openWords}

@@ -10,7 +10,7 @@ use Rattle.lists.specs.Functions.{inside}
 use Rattle.model.specs.Kinds.{Kind}
 use Rattle.model.specs.Board.{opened}
 use Rattle.model.specs.Runs.{Call}
-use Rattle.model.specs.Demand3.{Every}
+use Rattle.lists.specs.Every.{Every}
 use Rattle.model.specs.Table.{tableSize, tableWords}
 use Rattle.model.specs.TableCalls.{openNumber, openWords, tableSeen, tableRun}
 use Rattle.model.specs.Script.{Line, writes, reads, delivers, crashes, malformed, lineOf, callOf, stepped, stepLine, stepsPrinted, boardPrinted, linesPrinted, linesOf, firstOf, mostSteps, scriptOutput}

@@ -16,7 +16,8 @@ use Rattle.model.specs.Kinds.{Kind}
 use Rattle.model.specs.Member.{Member, idle}
 use Rattle.model.specs.Board.{Board, opened}
 use Rattle.model.specs.Runs.{Call, begin, deliver, crash, Seen, answerOf, done, doneReturns, after, seenAt, run}
-use Rattle.model.specs.Demand3.{Every, Demand3}
+use Rattle.lists.specs.Every.{Every}
+use Rattle.model.specs.Demand3.{Demand3}
 use Rattle.model.specs.Table.{tableSize, blockAt, phaseAt, memberOf, boardOf, tableWords, tableNumber, soundBoard}
 use Rattle.model.specs.TableCalls.{openNumber, openWords, boardIn, tableAnswer, tableAfter, tableReturns, phaseWords, tableSeen, tableRun}
 use Rattle.model.proofs.Demand3.{demand3}

@@ -14,7 +14,7 @@ use Rattle.model.specs.Records.{zeroValue}
 use Rattle.model.specs.Kinds.{concur}
 use Rattle.model.specs.Board.{Board, opened}
 use Rattle.model.specs.Runs.{Call, Seen, begin, deliver, crash, after, run}
-use Rattle.model.specs.Demand3.{Every}
+use Rattle.lists.specs.Every.{Every}
 use Rattle.model.specs.RecordWords.{valueOf}
 use Rattle.model.specs.Table.{tableWords}
 use Rattle.model.specs.TableCalls.{openNumber, openWords, boardIn, tableAfter, tableRun}

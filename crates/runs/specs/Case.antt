@@ -15,7 +15,7 @@ use Rattle.model.specs.Kinds.{concur}
 use Rattle.model.specs.Member.{Member, check21, check22, check23, check24, check25, check26, check27, replied}
 use Rattle.model.specs.Board.{Board}
 use Rattle.model.specs.Runs.{Call, begin, deliver, crash, Seen, run, after}
-use Rattle.model.specs.Demand3.{Every}
+use Rattle.lists.specs.Every.{Every}
 use Rattle.model.specs.Messages.{reply, commit, encode}
 use Rattle.model.specs.Script.{caller}
 use Rattle.model.specs.TableCalls.{openNumber, openWords, boardIn, tableAfter, tableRun}

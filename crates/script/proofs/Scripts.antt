@@ -1,6 +1,6 @@
 -- Every example holds: both sides are computed. Assumes nothing.
 use mathlib.Core.Path.{refl}
-use Rattle.model.specs.Demand3.{Every}
+use Rattle.lists.specs.Every.{Every}
 use Rattle.model.specs.Rows.{zeroRow, zeroMatrix, below, matrixBelow, comparable, larger, withCount}
 use Rattle.model.specs.Records.{zeroValue, opening, zeroRecord, recordWithin}
 use Rattle.model.specs.Kinds.{isOperation, barred, becomesStored}
