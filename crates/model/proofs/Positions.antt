@@ -561,11 +561,10 @@ module _ (look : ℕ → Option Step) where
       let x = watchStep w call s in
       let n : x .steps ≡ w .steps + 1 = moved-steps (here .moved) in
       let h′ = places-after (here .moved) h in
-      let a′ = ahead-next look (w .steps) call calls s seen (x .steps) n a in
-      (
+      let a′ = ahead-next look (w .steps) call calls s seen (x .steps) n a in (
         (λ z. let l = run-left (λ q y. PlacedIn q y at call s) (λ q r y z next g f. placed-after at (omega arith) call s next g f)
-        (s .phases) x h′ (rw e (here .placed z)) calls seen a′ (m .1) in
-        placed-known (l .phases) (watchFrom x calls seen) at call s (l .kept)),
+            (s .phases) x h′ (rw e (here .placed z)) calls seen a′ (m .1) in
+            placed-known (l .phases) (watchFrom x calls seen) at call s (l .kept)),
         all-placed (s .phases) x h′ (at + 1) (omega arith) calls seen a′ (m .1),
       )
 

@@ -15,11 +15,11 @@ use Rattle.lists.proofs.Functions.{on, inside-low, inside-high, within-at, with
 use Rattle.model.specs.Kinds.{Kind}
 use Rattle.model.specs.Member.{Member, idle}
 use Rattle.model.specs.Board.{Board, opened}
-use Rattle.model.specs.Runs.{Call, begin, deliver, crash, Seen, answerOf, done, doneReturns, after, seenAt, run}
+use Rattle.model.specs.Runs.{Call, begin, deliver, crash, Seen, answerOf, done, doneReturns, after, seenAt, run, boards}
 use Rattle.lists.specs.Every.{Every}
 use Rattle.model.specs.Demand3.{Demand3}
 use Rattle.model.specs.Table.{tableSize, blockAt, phaseAt, memberOf, boardOf, tableWords, tableNumber, soundBoard}
-use Rattle.model.specs.TableCalls.{openNumber, openWords, boardIn, tableAnswer, tableAfter, tableReturns, phaseWords, tableSeen, tableRun}
+use Rattle.model.specs.TableCalls.{openNumber, openWords, boardIn, tableAnswer, tableAfter, tableReturns, phaseWords, tableSeen, tableRun, tableBoards}
 use Rattle.model.proofs.Demand3.{demand3}
 use Rattle.laws.proofs.Tables.{length-table, table-zero, member-at}
 use Rattle.laws.proofs.Sound.{SoundBoard, board-sound}
@@ -98,13 +98,26 @@ module _ (kind : Kind) (n : ℕ) (size : inside 12 n ≡ true) where
       (ap (λ l. tableRun kind l calls) (same-after b s h call)
       ∙ same-run (after kind n b call) (after-sound b s call) (after-held b s h call (v .0)) calls (v .1)) t
 
+  pub same-boards : (b : Board) → SoundBoard kind n b → HeldBoard n b → (calls : List Call) → Every CallHeld calls
+      → tableBoards kind (tableWords n b) calls ≡ boards kind n b calls
+  unfolding tableBoards boards
+  same-boards b s h [] v = refl
+  same-boards b s h (call ∷ calls) v = λ t. board-in b h t ∷
+      (ap (λ l. tableBoards kind l calls) (same-after b s h call)
+      ∙ same-boards (after kind n b call) (after-sound b s call) (after-held b s h call (v .0)) calls (v .1)) t
+
 pub open-size : (n : ℕ) (l : List ℕ) → openNumber n l ≡ 0 → inside 12 n ≡ true
 unfolding openNumber
 open-size n l o = on (inside 12 n) (λ p. p) (λ p. absurd (let z : _≡_ {A = ℕ} 1 0 = rw p at o in omega arith))
 
 -- Demand 3 of every table that opening took, for every n from 1 to 12, and every list of calls whose values have 8 words.
 pub demand3-on-tables : (kind : Kind) (n : ℕ) (l : List ℕ) → openNumber n l ≡ 0 → (calls : List Call) → Every CallHeld calls
-    → Demand3 kind n calls (tableRun kind (openWords n l) calls)
+    → Demand3 kind n calls (tableBoards kind (openWords n l) calls) (tableRun kind (openWords n l) calls)
 unfolding openWords
 demand3-on-tables kind n l o calls v =
-    rw (o, same-run kind n (open-size n l o) (opened n) (opened-sound kind n) (opened-held n) calls v) (demand3 kind n calls)
+    let size = open-size n l o in
+    rw (
+      o,
+      same-boards kind n size (opened n) (opened-sound kind n) (opened-held n) calls v,
+      same-run kind n size (opened n) (opened-sound kind n) (opened-held n) calls v,
+    ) (demand3 kind n calls)

@@ -19,7 +19,8 @@ use Rattle.model.specs.RecordWords.{valueOf}
 use Rattle.model.specs.Table.{tableWords}
 use Rattle.model.specs.TableCalls.{openNumber, openWords, boardIn, tableAfter, tableRun}
 use Rattle.runs.specs.Case.{Case, Claim, Question, left, answerTo, found, Holds, tableLeft, foundInWords, HoldsInWords, writes, reads, delivers, wholeWrite, wholeRead}
-use Rattle.runs.specs.Cases.{p1, p6, p7, p9, p11, refusals, seals, unsealed, alone, mended, contended, fromOpening}
+use Rattle.runs.specs.Cases.{p1, p6, p7, p9, p11, p12, refusals, seals, unsealed, alone, mended, contended}
+use Rattle.runs.specs.Cases.{crashedSubmit, crashedOvertakes, readsNotStored, ownReadsNotStored, plain, crashes, falses, fromOpening}
 use Rattle.runs.proofs.Cases.{every-case}
 use Rattle.laws.proofs.Sound.{SoundBoard}
 use Rattle.runs.proofs.Sound.{opened-sound}
@@ -77,9 +78,12 @@ last-held w = value-held (put zeroValue 8 w) (λ k p. on (eqb k 8)
     (λ e. put-off zeroValue 8 w k (eqb-false k 8 e)))
 
 -- Lists of calls, one after the other.
+joined : {A : Type 0} (P : A → Type 0) (xs ys : List A) → Every P xs → Every P ys → Every P (xs ++ ys)
+joined P [] ys p q = q
+joined P (x ∷ xs) ys p q = (p .0, joined P xs ys (p .1) q)
+
 join : (xs ys : List Call) → Every CallHeld xs → Every CallHeld ys → Every CallHeld (xs ++ ys)
-join [] ys p q = q
-join (x ∷ xs) ys p q = (p .0, join xs ys (p .1) q)
+join = joined CallHeld
 
 delivers-held : (i k : ℕ) → Every CallHeld (delivers i k)
 delivers-held i zero = tt
@@ -105,8 +109,52 @@ p7-held = join (p6 .calls) ((deliver 1 ∷ deliver 2 ∷ []) ++ wholeWrite 2 5 +
 abbrev Opened : Case → Type 0
 Opened c = (c .start ≡ opened (c .n)) × Every CallHeld (c .calls)
 
-all-opened : Every Opened fromOpening
-all-opened = (
+-- the calls of the longer ones
+
+crashed-submit : Every CallHeld (crashedSubmit .calls)
+crashed-submit = (
+  zero-held,
+  (
+    tt,
+    (
+      tt,
+      join (wholeRead 2 3) (wholeWrite 3 9 ++ (deliver 1 ∷ [])) (read-held 2 3)
+          (join (wholeWrite 3 9) (deliver 1 ∷ []) (write-held 3 9) (tt, tt)),
+    ),
+  ),
+)
+
+crashed-overtakes : Every CallHeld (crashedOvertakes .calls)
+crashed-overtakes = (
+  zero-held,
+  (
+    tt,
+    (
+      zero-held,
+      (
+        tt,
+        (
+          tt,
+          join (delivers 2 3) (wholeRead 2 3) (delivers-held 2 3) (read-held 2 3),
+        ),
+      ),
+    ),
+  ),
+)
+
+reads-not-stored : Every CallHeld (readsNotStored .calls)
+reads-not-stored = join (wholeWrite 1 77) (wholeRead 2 1 ++ wholeRead 3 1 ++ wholeRead 2 1) (write-held 1 77)
+    (join (wholeRead 2 1) (wholeRead 3 1 ++ wholeRead 2 1) (read-held 2 1)
+    (join (wholeRead 3 1) (wholeRead 2 1) (read-held 3 1) (read-held 2 1)))
+
+own-reads-not-stored : Every CallHeld (ownReadsNotStored .calls)
+own-reads-not-stored = join (wholeWrite 2 5) (wholeRead 2 1 ++ wholeRead 1 2) (write-held 2 5)
+    (join (wholeRead 2 1) (wholeRead 1 2) (read-held 2 1) (read-held 1 2))
+
+-- P2 to P8 and P10; the crashes; the false programs; P12
+
+plain-opened : Every Opened plain
+plain-opened = (
   (refl, join (wholeWrite 1 77) (wholeRead 2 1) (write-held 1 77) (read-held 2 1)),
   (
     (refl, write-held 1 77),
@@ -122,35 +170,7 @@ all-opened = (
               (refl, p7-held),
               (
                 (refl, join (p7 .calls) (wholeRead 1 3) p7-held (read-held 1 3)),
-                (
-                  (refl, (last-held 77, (tt, (tt, (tt, (tt, (tt, read-held 2 1))))))),
-                  (
-                    (refl, p6-held 2 1),
-                    (
-                      (refl, (zero-held, (tt, (tt, join (wholeRead 2 3) (wholeWrite 3 9 ++ (deliver 1 ∷ [])) (read-held 2 3) (join (wholeWrite 3 9) (deliver 1 ∷ []) (write-held 3 9) (tt, tt)))))),
-                      (
-                        (refl, (zero-held, (tt, (zero-held, (tt, (tt, join (delivers 2 3) (wholeRead 2 3) (delivers-held 2 3) (read-held 2 3))))))),
-                        (
-                          (
-                            refl,
-                            join (wholeWrite 1 77) (wholeRead 2 1 ++ wholeRead 3 1 ++ wholeRead 2 1) (write-held 1 77)
-                                (join (wholeRead 2 1) (wholeRead 3 1 ++ wholeRead 2 1) (read-held 2 1) (join (wholeRead 3 1) (wholeRead 2 1) (read-held 3 1) (read-held 2 1))),
-                          ),
-                          (
-                            (refl, join (wholeWrite 2 5) (wholeRead 2 1 ++ wholeRead 1 2) (write-held 2 5) (join (wholeRead 2 1) (wholeRead 1 2) (read-held 2 1) (read-held 1 2))),
-                            (
-                              (refl, write-held 1 77),
-                              (
-                                (refl, write-held 1 77),
-                                tt,
-                              ),
-                            ),
-                          ),
-                        ),
-                      ),
-                    ),
-                  ),
-                ),
+                ((refl, (last-held 77, (tt, (tt, (tt, (tt, (tt, read-held 2 1))))))), tt),
               ),
             ),
           ),
@@ -159,6 +179,32 @@ all-opened = (
     ),
   ),
 )
+
+crashes-opened : Every Opened crashes
+crashes-opened = (
+  (refl, (last-held 77, (tt, (tt, (tt, (tt, (tt, read-held 2 1))))))),
+  ((refl, join contended (deliver 1 ∷ crash 1 ∷ deliver 1 ∷ deliver 2 ∷ deliver 2 ∷ []) contended-held (tt, (tt, (tt, (tt, (tt, tt)))))), tt),
+)
+
+false-opened : Every Opened falses
+false-opened = (
+  (refl, p6-held 2 1),
+  (
+    (refl, crashed-submit),
+    (
+      (refl, crashed-overtakes),
+      (
+        (refl, reads-not-stored),
+        ((refl, own-reads-not-stored), tt),
+      ),
+    ),
+  ),
+)
+
+all-opened : Every Opened fromOpening
+all-opened = joined Opened plain (crashes ++ falses ++ p12) plain-opened
+    (joined Opened crashes (falses ++ p12) crashes-opened
+    (joined Opened falses p12 false-opened ((refl, write-held 1 77), ((refl, write-held 1 77), tt))))
 
 module _ {A : Type 0} (P : A → Type 0) where
   behind : (xs ys : List A) → Every P (xs ++ ys) → Every P ys

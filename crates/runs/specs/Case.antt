@@ -3,7 +3,7 @@
 use Prim.Native.Nat.{ℕ, zero, suc}
 use mathlib.Core.Path.{_≡_}
 use mathlib.Core.Bool.{Bool, true, false, cond, _&&_}
-use mathlib.Core.List.{List, [], _∷_, _++_}
+use mathlib.Core.List.{List, [], _∷_, _++_, map}
 use mathlib.Core.Option.{Option, none, some}
 use lib.Dec.{eqb}
 use lib.ListN.{length, replicate}
@@ -16,6 +16,7 @@ use Rattle.model.specs.Member.{Member, check21, check22, check23, check24, chec
 use Rattle.model.specs.Board.{Board}
 use Rattle.model.specs.Runs.{Call, begin, deliver, crash, Seen, run, after}
 use Rattle.lists.specs.Every.{Every}
+use Rattle.model.specs.History.{Op, Submit, watched}
 use Rattle.model.specs.Messages.{reply, commit, encode}
 use Rattle.model.specs.Script.{caller}
 use Rattle.model.specs.TableCalls.{openNumber, openWords, boardIn, tableAfter, tableRun}
@@ -53,6 +54,8 @@ pub data Question : Type 0 where
   newest : ℕ → Question
   -- a slot's newest and its stored record, a line for each: member, slot, type, count and the last word of the value
   records : ℕ → Question
+  -- a member's first and second message record: such a line, then the rows of its matrix
+  messages : ℕ → Question
   -- every member's phase, and every member's halt number
   phases : Question
   halts : Question
@@ -60,6 +63,12 @@ pub data Question : Type 0 where
   -- checks that fail, and the phase and halt number that the member then has
   failing : ℕ → ℕ → Question
   taking : ℕ → ℕ → Question
+  -- of the run: the operations that reached their verdict, the newest first: member, slot, type, the last word of the value given, the steps
+  -- of begin, submit and verdict, 1 if accepted, the step of the end, and the last word of a value that was returned
+  decided : Question
+  -- the newest operation that a member began, up to the step of its submit; and the submits taken, the newest first: step and slot
+  running : ℕ → Question
+  submits : Question
   -- how many bytes a commit of a slot's newest record is, and a reply with the slot's two records: whole messages
   sizes : ℕ → Question
   -- of a slice of so many words, all 7: the number that opening answers, and how many words are no longer 7 after it
@@ -106,6 +115,20 @@ rowsOf n (suc k) m = rowsOf n k m ++ (listed n (m (suc k)) ∷ [])
 unfoldable pub recordLine : Rec → List ℕ
 recordLine r = r .member ∷ r .slot ∷ r .operation ∷ r .count ∷ r .value 8 ∷ []
 
+unfoldable pub recordLines : ℕ → Rec → List (List ℕ)
+recordLines n r = recordLine r ∷ rowsOf n n (r .matrix)
+
+-- an operation as a watcher has it, before its verdict and after it
+unfoldable pub begunLine : Op → List ℕ
+begunLine o =
+    o .given .member ∷ o .given .slot ∷ o .given .operation ∷ o .given .value 8 ∷ o .beginAt ∷ o .submitAt ∷ []
+
+unfoldable pub decidedLine : Op → List ℕ
+decidedLine o = begunLine o ++ (o .verdictAt ∷ cond (o .accepted) 1 0 ∷ o .endAt ∷ lastWord (o .returned))
+
+unfoldable pub submitLine : Submit → List ℕ
+submitLine s = s .at ∷ s .slot ∷ []
+
 -- one number more, where a check fails
 unfoldable pub unless : Bool → ℕ → List ℕ → List ℕ
 unless passes number more = cond passes more (number ∷ more)
@@ -137,10 +160,14 @@ unfoldable pub answerTo : ℕ → List Call → Board → Board → List Seen �
 answerTo n calls b after seen output = printed calls seen
 answerTo n calls b after seen (newest r) = rowsOf n n (after .host r .newest .matrix)
 answerTo n calls b after seen (records r) = recordLine (after .host r .newest) ∷ recordLine (after .stored r) ∷ []
+answerTo n calls b after seen (messages i) = recordLines n (after .members i .first) ++ recordLines n (after .members i .second)
 answerTo n calls b after seen phases = listed n (λ i. after .members i .phase) ∷ []
 answerTo n calls b after seen halts = listed n (λ i. after .members i .halt) ∷ []
 answerTo n calls b after seen (failing i seals) = failingOf n i (b .members i) seals ∷ []
 answerTo n calls b after seen (taking i seals) = takingOf n i (b .members i) seals ∷ []
+answerTo n calls b after seen decided = map decidedLine (watched calls seen .decided)
+answerTo n calls b after seen (running i) = begunLine (watched calls seen .running i) ∷ []
+answerTo n calls b after seen submits = map submitLine (watched calls seen .submits)
 answerTo n calls b after seen (sizes r) =
     (length (encode n (commit (after .host r .newest))) ∷ length (encode n (reply (after .host r .newest) (after .stored r))) ∷ []) ∷ []
 answerTo n calls b after seen (opens words) = opensOf n (replicate words 7) ∷ []

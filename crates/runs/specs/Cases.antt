@@ -16,13 +16,18 @@ use Rattle.runs.specs.Case.{
   output,
   newest,
   records,
+  messages,
   phases,
   halts,
   failing,
   taking,
+  decided,
+  running,
+  submits,
   sizes,
   opens,
   _is_,
+  Claim,
   Case,
 }
 
@@ -47,6 +52,8 @@ example = record {
   claims =
       output is (pair 0 1 ∷ pair 0 2 ∷ pair 0 3 ∷ pair 0 4 ∷ pair 0 0
       ∷ pair 0 1 ∷ pair 0 2 ∷ pair 0 3 ∷ pair 0 4 ∷ triple 0 0 77 ∷ [])
+      ∷ decided is ((2 ∷ 1 ∷ read ∷ 0 ∷ 6 ∷ 7 ∷ 9 ∷ 1 ∷ 10 ∷ 77 ∷ []) ∷ (1 ∷ 1 ∷ write ∷ 77 ∷ 1 ∷ 2 ∷ 4 ∷ 1 ∷ 5 ∷ []) ∷ [])
+      ∷ submits is (pair 7 1 ∷ pair 2 1 ∷ [])
       ∷ [];
 }
 
@@ -63,7 +70,10 @@ p3 = record {
   n = 2;
   start = opened 2;
   calls = wholeWrite 1 77 ++ (reads 2 1 ∷ delivers 2 3);
-  claims = newest 1 is (pair 1 1 ∷ pair 0 0 ∷ []) ∷ [];
+  claims =
+      newest 1 is (pair 1 1 ∷ pair 0 0 ∷ [])
+      ∷ messages 2 is ((2 ∷ 1 ∷ read ∷ 1 ∷ 0 ∷ []) ∷ pair 1 1 ∷ pair 0 0 ∷ (1 ∷ 1 ∷ write ∷ 1 ∷ 77 ∷ []) ∷ pair 1 0 ∷ pair 0 0 ∷ [])
+      ∷ [];
 }
 
 -- "n = 1 opens with 79 words; 0 and 13 give 1": of 79 words that are all 7 every one is changed; and n comes before the length
@@ -110,17 +120,33 @@ refusals = record {
 
 -- Two operations on one slot at once.
 
--- members 1 and 2 submit reads of slot 3, 1 then 2, and each takes its first message
+-- members 1 and 2 submit reads of slot 3, 1 then 2, and each takes its first message: steps 1 to 6
 abbrev pub contended : List Call
 contended = reads 1 3 ∷ reads 2 3 ∷ deliver 1 ∷ deliver 2 ∷ deliver 1 ∷ deliver 2 ∷ []
+
+abbrev pub contendedClaims : List Claim
+contendedClaims = phases is (triple 5 4 0 ∷ []) ∷ newest 3 is (triple 0 0 0 ∷ triple 0 0 0 ∷ triple 0 1 0 ∷ []) ∷ []
 
 abbrev pub p6 : Case
 p6 = record {
   n = 3;
   start = opened 3;
   calls = contended ++ (deliver 1 ∷ deliver 2 ∷ []);
-  claims = phases is (triple 5 4 0 ∷ []) ∷ newest 3 is (triple 0 0 0 ∷ triple 0 0 0 ∷ triple 0 1 0 ∷ []) ∷ [];
+  claims = contendedClaims ++ (
+      decided is ((2 ∷ 3 ∷ read ∷ 0 ∷ 2 ∷ 4 ∷ 8 ∷ 1 ∷ 0 ∷ []) ∷ (1 ∷ 3 ∷ read ∷ 0 ∷ 1 ∷ 3 ∷ 7 ∷ 0 ∷ 0 ∷ []) ∷ [])
+      ∷ submits is (pair 4 3 ∷ pair 3 3 ∷ [])
+      ∷ []
+      );
 }
+
+-- the four operations of P7, as they stand after it: 1's aborted read, 2's read, 2's write, 1's read
+abbrev pub operations : List (List ℕ)
+operations =
+    (1 ∷ 2 ∷ read ∷ 0 ∷ 16 ∷ 17 ∷ 19 ∷ 1 ∷ 20 ∷ 5 ∷ [])
+    ∷ (2 ∷ 2 ∷ write ∷ 5 ∷ 11 ∷ 12 ∷ 14 ∷ 1 ∷ 15 ∷ [])
+    ∷ (2 ∷ 3 ∷ read ∷ 0 ∷ 2 ∷ 4 ∷ 8 ∷ 1 ∷ 10 ∷ 0 ∷ [])
+    ∷ (1 ∷ 3 ∷ read ∷ 0 ∷ 1 ∷ 3 ∷ 7 ∷ 0 ∷ 9 ∷ [])
+    ∷ []
 
 -- both complete, 2 writes slot 2, 1 reads slot 2
 abbrev pub p7 : Case
@@ -132,6 +158,8 @@ p7 = record {
       newest 2 is (triple 0 0 0 ∷ triple 1 1 0 ∷ triple 0 1 0 ∷ [])
       ∷ halts is (triple 0 0 0 ∷ [])
       ∷ phases is (triple 0 0 0 ∷ [])
+      ∷ decided is operations
+      ∷ submits is (pair 17 2 ∷ pair 12 2 ∷ pair 4 3 ∷ pair 3 3 ∷ [])
       ∷ [];
 }
 
@@ -145,6 +173,7 @@ p8 = record {
       newest 3 is (triple 0 0 0 ∷ triple 1 1 0 ∷ triple 2 1 0 ∷ [])
       ∷ halts is (triple 0 0 0 ∷ [])
       ∷ phases is (triple 0 0 0 ∷ [])
+      ∷ decided is ((1 ∷ 3 ∷ read ∷ 0 ∷ 21 ∷ 22 ∷ 24 ∷ 1 ∷ 25 ∷ 0 ∷ []) ∷ operations)
       ∷ [];
 }
 
@@ -154,7 +183,7 @@ newerWins = record {
   n = 3;
   start = opened 3;
   calls = contended ++ (deliver 2 ∷ deliver 1 ∷ []);
-  claims = p6 .claims;
+  claims = contendedClaims;
 }
 
 -- An idle member, given its own counts and what it knows.
@@ -201,6 +230,32 @@ p10 = record {
       ∷ [];
 }
 
+-- a crash in phase 4: the operation was accepted, and never ends
+abbrev pub crashedAccepted : Case
+crashedAccepted = record {
+  n = 2;
+  start = opened 2;
+  calls = writes 1 77 ∷ delivers 1 3 ++ (crash 1 ∷ deliver 1 ∷ wholeRead 2 1);
+  claims =
+      output is (pair 0 1 ∷ pair 0 2 ∷ pair 0 3 ∷ pair 0 4 ∷ pair 0 4 ∷ pair 10 4 ∷ prints (triple 0 0 77))
+      ∷ decided is ((2 ∷ 1 ∷ read ∷ 0 ∷ 7 ∷ 8 ∷ 10 ∷ 1 ∷ 11 ∷ 77 ∷ []) ∷ (1 ∷ 1 ∷ write ∷ 77 ∷ 1 ∷ 2 ∷ 4 ∷ 1 ∷ 0 ∷ []) ∷ [])
+      ∷ submits is (pair 8 1 ∷ pair 2 1 ∷ [])
+      ∷ [];
+}
+
+-- a crash in phase 5, of the one that P6 aborts: it takes no outcome, and the other ends as before
+abbrev pub crashedAborted : Case
+crashedAborted = record {
+  n = 3;
+  start = opened 3;
+  calls = contended ++ (deliver 1 ∷ crash 1 ∷ deliver 1 ∷ deliver 2 ∷ deliver 2 ∷ []);
+  claims =
+      output is (pair 0 1 ∷ pair 0 1 ∷ pair 0 2 ∷ pair 0 2 ∷ pair 0 3 ∷ pair 0 3
+      ∷ pair 0 5 ∷ pair 0 5 ∷ pair 10 5 ∷ pair 0 4 ∷ triple 0 0 0 ∷ [])
+      ∷ decided is ((2 ∷ 3 ∷ read ∷ 0 ∷ 2 ∷ 4 ∷ 10 ∷ 1 ∷ 11 ∷ 0 ∷ []) ∷ (1 ∷ 3 ∷ read ∷ 0 ∷ 1 ∷ 3 ∷ 7 ∷ 0 ∷ 0 ∷ []) ∷ [])
+      ∷ [];
+}
+
 -- False: "Letting a crashed member's submit, once taken, abort operations whose submits the host takes after it."
 abbrev pub crashedSubmit : Case
 crashedSubmit = record {
@@ -211,6 +266,9 @@ crashedSubmit = record {
       output
       is (pair 0 1 ∷ pair 0 2 ∷ pair 0 2 ∷ prints (triple 0 0 0) ++ prints (pair 0 0) ++ (pair 10 2 ∷ []))
       ∷ newest 3 is (triple 0 0 0 ∷ triple 0 0 0 ∷ triple 0 1 1 ∷ [])
+      ∷ running 1 is ((1 ∷ 3 ∷ read ∷ 0 ∷ 1 ∷ 2 ∷ []) ∷ [])
+      ∷ decided is ((3 ∷ 3 ∷ write ∷ 9 ∷ 9 ∷ 10 ∷ 12 ∷ 1 ∷ 13 ∷ []) ∷ (2 ∷ 3 ∷ read ∷ 0 ∷ 4 ∷ 5 ∷ 7 ∷ 1 ∷ 8 ∷ 0 ∷ []) ∷ [])
+      ∷ submits is (pair 10 3 ∷ pair 5 3 ∷ pair 2 3 ∷ [])
       ∷ [];
 }
 
@@ -273,7 +331,12 @@ by i m = record { member = i; slot = 2; operation = write; count = 0; value = ze
 abbrev pub reading : Matrix → Rec → Rec → Member
 reading known = answered (begun (idleWith zeroRow known) 2 read zeroValue)
 
--- the case: the checks that fail are this one and those after it, the member halts with this one, and nothing moves it again
+-- a record of a board of 2 with every part zero
+abbrev pub zeroLines : List (List ℕ)
+zeroLines = (0 ∷ 0 ∷ 0 ∷ 0 ∷ 0 ∷ []) ∷ pair 0 0 ∷ pair 0 0 ∷ []
+
+-- the case: the checks that fail are this one and those after it, the member halts with this one, "both message records zeroed", and nothing
+-- moves it again
 abbrev pub halting : ℕ → List ℕ → Member → Case
 halting number others m = record {
   n = 2;
@@ -283,6 +346,7 @@ halting number others m = record {
       failing 1 3 is ((number ∷ others) ∷ [])
       ∷ output is (pair 0 6 ∷ pair 10 6 ∷ pair 8 6 ∷ pair 11 6 ∷ [])
       ∷ halts is (pair number 0 ∷ [])
+      ∷ messages 1 is (zeroLines ++ zeroLines)
       ∷ [];
 }
 
@@ -355,11 +419,17 @@ mended =
     ∷ []
 
 -- The cases that start from an opened board, which are true of the table's words too.
+abbrev pub plain : List Case
+plain = example ∷ p2 ∷ p3 ∷ p4 ∷ p5 ∷ p6 ∷ p7 ∷ p8 ∷ p10 ∷ []
+
+abbrev pub crashes : List Case
+crashes = crashedAccepted ∷ crashedAborted ∷ []
+
+abbrev pub falses : List Case
+falses = newerWins ∷ crashedSubmit ∷ crashedOvertakes ∷ readsNotStored ∷ ownReadsNotStored ∷ []
+
 abbrev pub fromOpening : List Case
-fromOpening =
-    example ∷ p2 ∷ p3 ∷ p4 ∷ p5 ∷ p6 ∷ p7 ∷ p8 ∷ p10
-    ∷ newerWins ∷ crashedSubmit ∷ crashedOvertakes ∷ readsNotStored ∷ ownReadsNotStored
-    ∷ p12
+fromOpening = plain ++ crashes ++ falses ++ p12
 
 -- The table.
 abbrev pub cases : List Case

@@ -11,7 +11,7 @@ use Rattle.model.specs.Board.{opened}
 use Rattle.model.specs.Runs.{Call, Seen}
 use Rattle.model.specs.Demand3.{Demand3}
 use Rattle.model.specs.Table.{tableWords}
-use Rattle.model.specs.TableCalls.{tableRun}
+use Rattle.model.specs.TableCalls.{tableRun, tableBoards}
 use Rattle.model.specs.Script.{callOf, caller, lastWord, lineOf, printedLine, boardLine, mostSteps}
 
 -- the calls of the lines that make one, in order
@@ -48,7 +48,7 @@ pub record StepsRun (kind : Kind) (n : ℕ) (lines : List (List ℕ)) (printed :
   pub seen : List Seen
   pub run : seen ≡ tableRun kind (tableWords n (opened n)) (callsOf lines)
   pub prints : printed ≡ linesSeen 1 lines seen
-  pub holds : Demand3 kind n (callsOf lines) seen
+  pub holds : Demand3 kind n (callsOf lines) (tableBoards kind (tableWords n (opened n)) (callsOf lines)) seen
 
 -- The claim about a whole script whose first line is good: `board N`, and then its steps, of which there are 1,000,000 at most.
 pub record ScriptRun (kind : Kind) (n : ℕ) (lines : List (List ℕ)) (output : List ℕ) : Type 0 where
