@@ -8,6 +8,8 @@ pub mod AsReference
 pub mod HistoryInvariant
 pub mod HistoryLists
 pub mod Phases
+pub mod PositionsInvariant
+pub mod PositionsSteps
 pub mod Positions
 pub mod HistoryParts
 pub mod HistorySteps
