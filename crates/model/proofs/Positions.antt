@@ -20,7 +20,8 @@ use Rattle.model.specs.Positions.{Step, step, stepAt, Placed, AllPlaced,
 use Rattle.model.proofs.HistoryLists.{split, every}
 use Rattle.model.proofs.HistorySteps.{watch-verdict}
 use Rattle.model.proofs.Phases.{Next, submitted, answered, judged, ended as completes, Moves, StepMoves, RunMoves, verdict-high}
-use Rattle.model.proofs.PositionsInvariant.{Moved, stays, begins, submits, replies, judges, ends, moved-steps, Places, Found, runs, decided, PlacedIn, Taken}
+use Rattle.model.proofs.PositionsInvariant.{Moved, stays, begins, submits, replies, judges, ends, moved-steps, Places, Found, runs}
+use Rattle.model.proofs.PositionsInvariant.{decided, PlacedIn, Taken}
 use Rattle.model.proofs.PositionsSteps.{ended-found, placed-after, places-after, submits-after}
 
 -- A step of a run is one of the moves, and has its place.
@@ -209,7 +210,8 @@ positions-of calls seen m =
     let look = stepAt calls seen in
     let ahead : Ahead look 0 calls seen = λ k z. ap look (omega arith) in
     let first = places-nothing look in
-    let l = run-left look (λ p w. Every (Taken p w) (w .submits)) (λ p q w x. submits-after) (λ i. 0) nothingYet first tt calls seen ahead m in
+    let l = run-left look (λ p w. Every (Taken p w) (w .submits)) (λ p q w x. submits-after)
+    (λ i. 0) nothingYet first tt calls seen ahead m in
     let w = watchFrom nothingYet calls seen in
     record {
       running = λ i. l .places .running i .placed;

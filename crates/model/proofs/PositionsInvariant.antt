@@ -1,5 +1,5 @@
--- What is known of the watcher's positions after every step: the invariant behind the positions' part of demand 3. One step of the watch is one
--- of six moves (`Moved`). Statements alone, but for one that each move shows. Assumes nothing.
+-- What is known of the watcher's positions after every step: the invariant behind the positions' part of demand 3. One step of the
+-- watch is one of six moves (`Moved`). Statements alone, but for one that each move shows. Assumes nothing.
 use Prim.Native.Nat.{ℕ, _+_, _≤_, _<_}
 use mathlib.Core.Path.{_≡_, refl}
 use mathlib.Core.Bool.{Bool, cond}
@@ -13,7 +13,6 @@ use Rattle.model.specs.Records.{Value}
 use Rattle.model.specs.Runs.{Call, begin, deliver, crash, Seen}
 use Rattle.model.specs.History.{Op, Submit, Watch, begunOp, submittedOp, decidedOp, endedOp, ended}
 use Rattle.model.specs.Positions.{Step, step, IsBegin, IsDeliver, Begun, Decided}
-use Rattle.model.proofs.Phases.{submitted}
 
 -- The six moves of a watch and of the phases, given the step of each number.
 

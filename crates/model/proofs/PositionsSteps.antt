@@ -17,8 +17,8 @@ use Rattle.model.specs.Runs.{Call, begin, deliver, crash, Seen}
 use Rattle.model.specs.History.{Op, Submit, Watch, begunOp, submittedOp, decidedOp, endedOp, ended}
 use Rattle.model.specs.Positions.{Step, step, IsBegin, IsDeliver, Decided}
 use Rattle.model.proofs.HistoryLists.{split, every, every-ended}
-use Rattle.model.proofs.Phases.{submitted, judged}
-use Rattle.model.proofs.PositionsInvariant.{later, withRunning, Moved, stays, begins, submits, replies, judges, ends, RunningPlace, Unended, Places, Found, runs, decided, FoundIn, Stable, PlacedIn, Taken}
+use Rattle.model.proofs.PositionsInvariant.{later, withRunning, Moved, stays, begins, submits, replies, judges, ends, RunningPlace}
+use Rattle.model.proofs.PositionsInvariant.{Unended, Places, Found, runs, decided, FoundIn, Stable, PlacedIn, Taken}
 
 -- The parts, a step later.
 
@@ -204,8 +204,9 @@ found-after {low} {P} st {p = p} {w = w} (begins i r t v z b) h =
     (found-on 1 (begunOp (w .steps + 1) i r t v) (w .decided) (λ l m y. absurd (omega (arith, st .starts))) (λ s. s))
     (λ k d f. f)
 found-after {low} {P} st {p = p} {w = w} (submits i e d) h =
-    put-both (λ k ph o. FoundIn low P p w k → Found low P k ph o (w .decided)) p (w .running) i 2 (submittedOp (w .steps + 1) (w .running i))
-    (found-on 2 (submittedOp (w .steps + 1) (w .running i)) (w .decided)
+    let o = submittedOp (w .steps + 1) (w .running i) in
+    put-both (λ k ph o. FoundIn low P p w k → Found low P k ph o (w .decided)) p (w .running) i 2 o
+    (found-on 2 o (w .decided)
     (λ l m y. runs (omega arith) (omega arith) (st .submitted (w .steps + 1) (w .running i) (omega arith) y)) (λ s. s))
     (λ k d f. f)
 found-after {low} {P} st {p = p} {w = w} (replies i e) h =

@@ -63,8 +63,8 @@ pub data Question : Type 0 where
   -- checks that fail, and the phase and halt number that the member then has
   failing : ℕ → ℕ → Question
   taking : ℕ → ℕ → Question
-  -- of the run: the operations that reached their verdict, the newest first: member, slot, type, the last word of the value given, the steps
-  -- of begin, submit and verdict, 1 if accepted, the step of the end, and the last word of a value that was returned
+  -- of the run: the operations that reached their verdict, the newest first: member, slot, type, the last word of the value given, the
+  -- steps of begin, submit and verdict, 1 if accepted, the step of the end, and the last word of a value that was returned
   decided : Question
   -- the newest operation that a member began, up to the step of its submit; and the submits taken, the newest first: step and slot
   running : ℕ → Question

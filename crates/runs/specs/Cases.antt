@@ -335,8 +335,8 @@ reading known = answered (begun (idleWith zeroRow known) 2 read zeroValue)
 abbrev pub zeroLines : List (List ℕ)
 zeroLines = (0 ∷ 0 ∷ 0 ∷ 0 ∷ 0 ∷ []) ∷ pair 0 0 ∷ pair 0 0 ∷ []
 
--- the case: the checks that fail are this one and those after it, the member halts with this one, "both message records zeroed", and nothing
--- moves it again
+-- the case: the checks that fail are this one and those after it, the member halts with this one, "both message records zeroed", and
+-- nothing moves it again
 abbrev pub halting : ℕ → List ℕ → Member → Case
 halting number others m = record {
   n = 2;
