@@ -194,6 +194,7 @@ places-nothing look = record {
       began = λ h. absurd (omega arith);
       submitted = λ h. absurd (omega arith);
       inOrder = λ h. absurd (omega arith);
+      undecided = (refl, refl, refl, refl);
     };
     hasBegun = λ l. absurd (omega arith);
     hasSubmitted = λ l. absurd (omega arith);

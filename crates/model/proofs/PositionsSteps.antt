@@ -71,6 +71,7 @@ begun-place look at i r t v z b = record {
     began = λ h. b;
     submitted = λ h. absurd (omega arith);
     inOrder = λ h. absurd (omega arith);
+    undecided = (refl, refl, refl, refl);
   };
   hasBegun = λ l. z;
   hasSubmitted = λ l. absurd (omega arith);
@@ -87,6 +88,7 @@ submitted-place {steps = steps} h one d = record {
     began = h .placed .began;
     submitted = λ z. d;
     inOrder = λ z. omega (arith, h .began);
+    undecided = (refl, refl, refl, refl);
   };
   hasBegun = λ l. h .hasBegun (omega arith);
   hasSubmitted = λ l. omega arith;
@@ -108,6 +110,7 @@ judged-place {look} {steps = steps} {o = o} h three a d =
       ended = λ z. absurd (omega arith);
       inOrder = (begun, h .placed .inOrder sent, omega (arith, h .submitted));
       last = λ z. absurd (omega arith);
+      unended = λ z. refl;
     }
 
 -- and at its end
@@ -122,6 +125,7 @@ ended-place look i steps v d o m h = (
     ended = λ z. rw m d;
     inOrder = h .0 .inOrder;
     last = λ z. omega (arith, h .1);
+    unended = λ z. absurd (omega arith);
   },
   omega (arith, h .1),
 )

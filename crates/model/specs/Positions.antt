@@ -2,7 +2,7 @@
 -- about what was done and seen, whatever the watcher's own definitions are. A step's number is its place in the list, from 1.
 use Prim.Native.Nat.{ℕ, _+_, _-_, _<_}
 use mathlib.Core.Path.{_≡_}
-use mathlib.Core.Bool.{Bool, cond}
+use mathlib.Core.Bool.{Bool, false, cond}
 use mathlib.Core.List.{List, [], _∷_}
 use mathlib.Core.Logic.{_⊎_}
 use mathlib.Core.Option.{Option, none, some}
@@ -48,6 +48,7 @@ pub record Begun (at : ℕ → Option Step) (i : ℕ) (o : Op) : Type 0 where
   pub began : 0 < o .beginAt → IsBegin (o .given) (at (o .beginAt))
   pub submitted : 0 < o .submitAt → IsDeliver i 2 none (at (o .submitAt))
   pub inOrder : 0 < o .submitAt → o .beginAt < o .submitAt
+  pub undecided : (o .verdictAt ≡ 0) × (o .accepted ≡ false) × (o .endAt ≡ 0) × (o .returned ≡ none)
 
 -- one that has reached its verdict: phase 4 after its commit was taken if it was accepted, else 5
 pub record Decided (at : ℕ → Option Step) (o : Op) : Type 0 where
@@ -57,6 +58,7 @@ pub record Decided (at : ℕ → Option Step) (o : Op) : Type 0 where
   pub ended : 0 < o .endAt → IsDeliver (o .given .member) 0 (o .returned) (at (o .endAt))
   pub inOrder : (0 < o .beginAt) × (o .beginAt < o .submitAt) × (o .submitAt < o .verdictAt)
   pub last : 0 < o .endAt → o .verdictAt < o .endAt
+  pub unended : o .endAt ≡ 0 → o .returned ≡ none
 
 -- an operation of member i of which P holds, with its verdict or without
 abbrev pub Known : Watch → ℕ → (Op → Type 0) → Type 0
