@@ -1,5 +1,6 @@
 pub mod Rows
 pub mod Order
+pub mod NumberClaims
 pub mod Answers
 pub mod Invariant
 pub mod InvariantMember

@@ -2,6 +2,7 @@ pub mod Rows
 pub mod Records
 pub mod Kinds
 pub mod Numbers
+pub mod NumberClaims
 pub mod Member
 pub mod Host
 pub mod Board
