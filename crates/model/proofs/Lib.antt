@@ -13,4 +13,5 @@ pub mod HistorySteps
 pub mod History
 pub mod Demand3
 pub mod Published
+pub mod MemberClaims
 pub mod PublishedHost

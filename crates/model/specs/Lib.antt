@@ -18,3 +18,4 @@ pub mod Script
 pub mod Messages
 pub mod Published
 pub mod PublishedClaims
+pub mod MemberClaims
