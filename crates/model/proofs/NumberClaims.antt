@@ -178,24 +178,21 @@ module _ (kind : Kind) (n phase crashed count i r t : ℕ) where
       (λ q. inr (inl (m, none-such n r q))))
       (λ p. inl (none-such n i p))
 
-  -- past 4 to 7
-  allowed-begin : OneTo n i → OneTo n r → Allowed i r t
-      → beginAnswer kind n phase crashed count i r t
-      ≡ cond (not (eqb phase 0) || not (eqb crashed 0)) 8 (cond (leb (kind .limit) count) 9 0)
-  unfolding beginAnswer
-  allowed-begin m s a = let judged = allowed-judged kind i r t a in rw (is-inside m, is-inside s, judged .operation, judged .outcome)
-
   begin-gives : Give (beginAnswer kind n phase crashed count i r t) begin-rows
   unfolding Give beginAnswer
   begin-gives =
       let bars = barred-judged kind i r t in
+      let allows = allowed-judged kind i r t in
       (λ g. rw (not-inside n i g))
       and (λ g. rw (is-inside (g .0), not-inside n r (g .1)))
       and (λ g. rw (is-inside (g .0), is-inside (g .1), not-operation t (g .2) (g .3)))
       and (λ g. rw (is-inside (g .0), is-inside (g .1), bars (g .2) .operation, bars (g .2) .outcome))
-      and (λ g. allowed-begin (g .0) (g .1) (g .2) ∙ rw (is-busy phase crashed (g .3)))
-      and (λ g. allowed-begin (g .0) (g .1) (g .2) ∙ rw (g .3, g .4, le-leb (kind .limit) count (g .5)))
-      and (λ g. allowed-begin (g .0) (g .1) (g .2) ∙ rw (g .3, g .4, lt-leb (kind .limit) count (g .5)))
+      and (λ g. let a = allows (g .2) in
+      rw (is-inside (g .0), is-inside (g .1), a .operation, a .outcome, is-busy phase crashed (g .3)))
+      and (λ g. let a = allows (g .2) in
+      rw (is-inside (g .0), is-inside (g .1), a .operation, a .outcome, g .3, g .4, le-leb (kind .limit) count (g .5)))
+      and (λ g. let a = allows (g .2) in
+      rw (is-inside (g .0), is-inside (g .1), a .operation, a .outcome, g .3, g .4, lt-leb (kind .limit) count (g .5)))
       and tt
 
   begin-exactly : Exactly (beginAnswer kind n phase crashed count i r t) begin-rows
