@@ -10,7 +10,7 @@ use Rattle.lists.specs.Functions.{inside}
 use Rattle.lists.proofs.Functions.{on}
 use Rattle.model.specs.Kinds.{Kind, isOperation, barred}
 use Rattle.model.specs.Numbers.{beginAnswer, deliverAnswer, crashAnswer}
-use Rattle.model.proofs.NumberClaims.{is-inside, allowed-judged, numbers-as-listed}
+use Rattle.model.proofs.NumberClaims.{is-inside, allowed-tested, numbers-as-listed}
 
 pub record BeginTaken (kind : Kind) (n phase crashed count i r t : ℕ) : Type 0 where
   pub member : inside n i ≡ true
@@ -25,12 +25,12 @@ pub begin-taken : (kind : Kind) (n phase crashed count i r t : ℕ) → beginAns
     → BeginTaken kind n phase crashed count i r t
 begin-taken kind n phase crashed count i r t h =
     let k = numbers-as-listed n .begins kind phase crashed count i r t .done .0 h in
-    let judged = allowed-judged kind i r t (k .2) in
+    let tested = allowed-tested kind i r t (k .2) in
     record {
       member = is-inside (k .0);
       slot = is-inside (k .1);
-      operation = judged .operation;
-      allowed = judged .outcome;
+      operation = tested .operation;
+      allowed = tested .seven;
       isIdle = k .3;
       isUp = k .4;
       room = k .5;

@@ -113,22 +113,22 @@ not-operation : (t : ℕ) → (t ≡ 1 → ⊥) → (t ≡ 2 → ⊥) → isOper
 unfolding isOperation
 not-operation t a b = rw (ne-eqb t 1 a, ne-eqb t 2 b)
 
-pub record Judged (kind : Kind) (i r t : ℕ) (isBarred : Bool) : Type 0 where
+pub record Tested (kind : Kind) (i r t : ℕ) (refused : Bool) : Type 0 where
   pub operation : isOperation t ≡ true
-  pub outcome : barred kind i r t ≡ isBarred
+  pub seven : barred kind i r t ≡ refused
 
-barred-judged : (kind : Kind) (i r t : ℕ) → Barred i r t → Judged kind i r t true
+barred-tested : (kind : Kind) (i r t : ℕ) → Barred i r t → Tested kind i r t true
 unfolding isOperation barred
-barred-judged kind i r t b = ⊎-elim
-    (λ h. record { operation = rw (h .0); outcome = rw (h .0, ne-eqb i r (h .1)) })
-    (λ h. record { operation = rw (h .0); outcome = rw (h .0, eq-eqb i r (h .1)) })
+barred-tested kind i r t b = ⊎-elim
+    (λ h. record { operation = rw (h .0); seven = rw (h .0, ne-eqb i r (h .1)) })
+    (λ h. record { operation = rw (h .0); seven = rw (h .0, eq-eqb i r (h .1)) })
     b
 
-pub allowed-judged : (kind : Kind) (i r t : ℕ) → Allowed i r t → Judged kind i r t false
+pub allowed-tested : (kind : Kind) (i r t : ℕ) → Allowed i r t → Tested kind i r t false
 unfolding isOperation barred
-allowed-judged kind i r t b = ⊎-elim
-    (λ h. record { operation = rw (h .0); outcome = rw (h .0, eq-eqb i r (h .1)) })
-    (λ h. record { operation = rw (h .0); outcome = rw (h .0, ne-eqb i r (h .1)) })
+allowed-tested kind i r t b = ⊎-elim
+    (λ h. record { operation = rw (h .0); seven = rw (h .0, eq-eqb i r (h .1)) })
+    (λ h. record { operation = rw (h .0); seven = rw (h .0, ne-eqb i r (h .1)) })
     b
 
 -- a type is none, barred or allowed
@@ -181,18 +181,18 @@ module _ (kind : Kind) (n phase crashed count i r t : ℕ) where
   begin-gives : Give (beginAnswer kind n phase crashed count i r t) begin-rows
   unfolding Give beginAnswer
   begin-gives =
-      let bars = barred-judged kind i r t in
-      let allows = allowed-judged kind i r t in
+      let bars = barred-tested kind i r t in
+      let allows = allowed-tested kind i r t in
       (λ g. rw (not-inside n i g))
       and (λ g. rw (is-inside (g .0), not-inside n r (g .1)))
       and (λ g. rw (is-inside (g .0), is-inside (g .1), not-operation t (g .2) (g .3)))
-      and (λ g. rw (is-inside (g .0), is-inside (g .1), bars (g .2) .operation, bars (g .2) .outcome))
+      and (λ g. rw (is-inside (g .0), is-inside (g .1), bars (g .2) .operation, bars (g .2) .seven))
       and (λ g. let a = allows (g .2) in
-      rw (is-inside (g .0), is-inside (g .1), a .operation, a .outcome, is-busy phase crashed (g .3)))
+      rw (is-inside (g .0), is-inside (g .1), a .operation, a .seven, is-busy phase crashed (g .3)))
       and (λ g. let a = allows (g .2) in
-      rw (is-inside (g .0), is-inside (g .1), a .operation, a .outcome, g .3, g .4, le-leb (kind .limit) count (g .5)))
+      rw (is-inside (g .0), is-inside (g .1), a .operation, a .seven, g .3, g .4, le-leb (kind .limit) count (g .5)))
       and (λ g. let a = allows (g .2) in
-      rw (is-inside (g .0), is-inside (g .1), a .operation, a .outcome, g .3, g .4, lt-leb (kind .limit) count (g .5)))
+      rw (is-inside (g .0), is-inside (g .1), a .operation, a .seven, g .3, g .4, lt-leb (kind .limit) count (g .5)))
       and tt
 
   begin-exactly : Exactly (beginAnswer kind n phase crashed count i r t) begin-rows

@@ -75,6 +75,7 @@ use Rattle.model.specs.Published.{
   line58,
   line59,
   line512,
+  line512writes,
   line513,
   received,
   sameId,
@@ -88,6 +89,7 @@ use Rattle.model.specs.PublishedClaims.{
   storedHeld,
   MemberAsPublished,
   OpenedAsPublished,
+  WritesAsPrinted,
 }
 
 eqb-swap : (a b : ℕ) → eqb a b ≡ eqb b a
@@ -225,6 +227,10 @@ opened-as-published n = record {
   stored = λ r low high. within-at n zeroRecord opening r low high;
   newest = λ r low high. ap (λ e. e .newest) (within-at n noEntry openingEntry r low high);
 }
+
+pub writes-as-printed : WritesAsPrinted
+unfolding line512 line512writes idOf
+writes-as-printed = record { stores = λ op s isWrite own. rw (isWrite, own) }
 
 -- Why document 01 differs: two runs of the printed lines in which an honest server makes a client halt.
 

@@ -5,7 +5,7 @@ use mathlib.Core.Bool.{Bool, true, false, cond, not, _&&_}
 use mathlib.Core.List.{List, [], _∷_, _++_}
 use mathlib.Core.Option.{none}
 use lib.Dec.{eqb}
-use Rattle.model.specs.Records.{Value, Rec}
+use Rattle.model.specs.Records.{Value, Rec, write}
 use Rattle.model.specs.Kinds.{Kind}
 use Rattle.model.specs.Member.{Member, idle, begun, answered, replied, passed, failed, judged, outcome, returnedBy}
 use Rattle.model.specs.Board.{Board, opened, sentRecord}
@@ -30,6 +30,7 @@ use Rattle.model.specs.Published.{
   afterOk,
   afterOkWrites,
   afterAbortAmended,
+  Server,
   serverOpened,
   ToServer,
   submit,
@@ -37,6 +38,7 @@ use Rattle.model.specs.Published.{
   FromServer,
   submitR,
   commitR,
+  line512,
   line512writes,
   serverAnswers,
 }
@@ -161,3 +163,7 @@ pub record OpenedAsPublished (n : ℕ) : Type 0 where
   pub members : (i : ℕ) → opened n .members i ≡ idle
   pub stored : (r : ℕ) → 1 ≤ r → r ≤ n → opened n .stored r ≡ serverOpened .x r
   pub newest : (r : ℕ) → 1 ≤ r → r ≤ n → opened n .host r .newest ≡ serverOpened .lso r
+
+-- Document 01's 5.12 is the printed one for a write, whose slot is its client's own.
+pub record WritesAsPrinted : Type 0 where
+  pub stores : (op : Rec) (s : Server) → op .operation ≡ write → op .member ≡ op .slot → line512writes op s ≡ line512 op s
