@@ -43,9 +43,9 @@ abbrev pub zeroed : List Part
 zeroed = phase ∷ slot ∷ operation ∷ pending ∷ first ∷ second ∷ []
 
 pub record MemberAsDescribed (n i : ℕ) : Type 0 where
-  -- "Opening sets every word zero"; its counts, values and matrix: MemberAsPublished's `opens`
+  -- "Opening sets every word zero"; counts, values and matrix are in MemberAsPublished.opens
   pub opens : AtRest idle × (idle .crashed ≡ 0) × (idle .halt ≡ 0)
-  -- "slot and type are noted .. phase 1"; own count and pending value: its `begins`
+  -- "slot and type are noted .. phase 1."; own count and pending value are in MemberAsPublished.begins
   pub begins : (m : Member) (r t : ℕ) (v : Value)
       → let left = begun m r t v in
       (left .phase ≡ 1)
@@ -64,14 +64,15 @@ pub record MemberAsDescribed (n i : ℕ) : Type 0 where
       × (left .first ≡ zeroRecord)
       × (left .second ≡ zeroRecord)
       × ChangesOnly (phase ∷ halt ∷ first ∷ second ∷ []) m left
-  -- "Else the first message record becomes its own record .. and phase 3. .. The second message record stays."; the first: its `commits`
+  -- "Else the first message record becomes its own record .. and phase 3. .. The second message record stays."; the first is in
+  -- MemberAsPublished.commits
   pub passes : (m : Member) (newest stored : Rec)
       → let left = passed n i m newest stored in
       (left .phase ≡ 3) × (left .second ≡ stored) × ChangesOnly (phase ∷ first ∷ second ∷ []) m left
   -- the verdict: "phase 4. Otherwise phase 5"
   pub judges : (m : Member) (won : Bool) → (judged m won .phase ≡ cond won 4 5) × ChangesOnly (phase ∷ []) m (judged m won)
-  -- the outcome: the zeroing; accepted, "the known matrix .., the accepted count .., for a write the last own sheet", its `accepts`;
-  -- aborted, "nothing else"
+  -- the outcome: the zeroing; accepted, also "the known matrix .., the accepted count .., for a write the last own sheet", which are in
+  -- MemberAsPublished.accepts; aborted, "nothing else"
   pub rests : (m : Member) (won : Bool) → AtRest (outcome m won)
   pub accepts : (m : Member) → ChangesOnly (known ∷ accepted ∷ last ∷ zeroed) m (outcome m true)
   pub aborts : (m : Member) → ChangesOnly zeroed m (outcome m false)
