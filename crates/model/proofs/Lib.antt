@@ -1,5 +1,6 @@
 pub mod Rows
 pub mod Order
+pub mod NumberClaims
 pub mod Answers
 pub mod Invariant
 pub mod InvariantMember
@@ -16,4 +17,5 @@ pub mod HistorySteps
 pub mod History
 pub mod Demand3
 pub mod Published
+pub mod MemberClaims
 pub mod PublishedHost

@@ -1,18 +1,19 @@
 -- The member is Algorithm 3's client, with document 01's differences; and the two printed lines that halt a member with an honest server.
 -- Assumes nothing.
 use Prim.Native.Nat.{ℕ, _/_, _%_}
-use mathlib.Core.Path.{_≡_, refl, sym, _∙_, fun-ext}
+use mathlib.Core.Path.{_≡_, refl, sym, _∙_, ap, fun-ext}
 use mathlib.Core.Bool.{Bool, true, false, cond, not, _&&_}
 use mathlib.Core.Option.{none}
 use native.Mathlib.Omega.{arith}
 use lib.Dec.{eqb}
 use borrow.Author.Tests.{eq-eqb, ne-eqb, eqb-true, eqb-false}
 use Rattle.lists.specs.Functions.{put, each}
-use Rattle.lists.proofs.Functions.{on}
+use Rattle.lists.proofs.Functions.{on, within-at}
 use Rattle.model.specs.Rows.{larger, below, matrixBelow, comparable, zeroRow, zeroMatrix}
-use Rattle.model.specs.Records.{Value, Rec, read, write, opening}
+use Rattle.model.specs.Records.{Value, Rec, read, write, opening, zeroRecord}
 use Rattle.model.specs.Member.{
   Member,
+  idle,
   begun,
   answered,
   check21,
@@ -26,19 +27,24 @@ use Rattle.model.specs.Member.{
   joined,
   ownRecord,
   passed,
+  failed,
+  replied,
   judged,
   completed,
   tookOver,
   dropped,
+  outcome,
   returnedBy,
 }
-use Rattle.model.specs.Board.{sentRecord}
+use Rattle.model.specs.Board.{noEntry, openingEntry, opened, sentRecord}
 use Rattle.model.specs.Published.{
   idOf,
   line33,
   line34,
   line37,
   line38,
+  line38others,
+  line38own,
   line39,
   line310,
   line312,
@@ -69,11 +75,22 @@ use Rattle.model.specs.Published.{
   line58,
   line59,
   line512,
+  line512writes,
   line513,
   received,
   sameId,
 }
-use Rattle.model.specs.PublishedClaims.{variables, resting, working, submitOf, newestHeld, storedHeld, MemberAsPublished}
+use Rattle.model.specs.PublishedClaims.{
+  variables,
+  resting,
+  working,
+  submitOf,
+  newestHeld,
+  storedHeld,
+  MemberAsPublished,
+  OpenedAsPublished,
+  WritesAsPrinted,
+}
 
 eqb-swap : (a b : ℕ) → eqb a b ≡ eqb b a
 eqb-swap a b = on (eqb a b)
@@ -90,47 +107,65 @@ sealed seals = on (eqb seals 3)
     rw (p, q, ne-eqb (seals / 2) 1 (λ h. eqb-false seals 3 p (omega arith))))
     (λ q. rw (p, q)))
 
--- the first check that fails has a number of its own
-none-fails : (a b c d e f g : Bool)
-    → eqb (cond (not a) 21 (cond (not b) 22 (cond (not c) 23 (cond (not d) 24 (cond (not e) 25 (cond (not f) 26 (cond (not g) 27 0))))))) 0
-    ≡ (a && (b && c) && d && e && f && g)
-none-fails false b c d e f g = refl
-none-fails true false c d e f g = refl
-none-fails true true false d e f g = refl
-none-fails true true true false e f g = refl
-none-fails true true true true false f g = refl
-none-fails true true true true true false g = refl
-none-fails true true true true true true false = refl
-none-fails true true true true true true true = refl
-
--- 3.8 and 3.10 have their equations the other way round
+-- Seven checks in order: the state that the first failure leaves, by its number; phase 3 exactly if none fails.
 module _ (n i : ℕ) (m : Member) (newest stored : Rec) where
-  second-check : (check22 n i (m .slot) (m .known) (newest .matrix) && check23 i (m .slot) (m .accepted) (newest .matrix))
-      ≡ line38 n i (m .slot) (working m) newest
-  unfolding check22 check23 line38 working variables
-  second-check = rw (eqb-swap (newest .matrix (m .slot) i) (m .accepted (m .slot)))
+  unfoldable down : Bool → Bool → Bool → Bool → Bool → Bool → Bool → Member
+  down a b c d e f g =
+      cond (not a) (failed m 21)
+      (cond (not b) (failed m 22)
+      (cond (not c) (failed m 23)
+      (cond (not d) (failed m 24)
+      (cond (not e) (failed m 25)
+      (cond (not f) (failed m 26)
+      (cond (not g) (failed m 27)
+      (passed n i m newest stored)))))))
 
-  fourth-check : check25 n (m .slot) (stored .matrix) (newest .matrix) ≡ line310 n (m .slot) stored newest
+  first-failed : (a b c d e f g : Bool)
+      → let number : ℕ =
+      cond (not a) 21 (cond (not b) 22 (cond (not c) 23 (cond (not d) 24 (cond (not e) 25 (cond (not f) 26 (cond (not g) 27 0)))))) in
+      (cond (eqb number 0) (passed n i m newest stored) (failed m number) ≡ down a b c d e f g)
+      × (eqb (down a b c d e f g .phase) 3 ≡ (a && (b && c) && d && e && f && g))
+  unfolding down failed passed
+  first-failed false b c d e f g = (refl, refl)
+  first-failed true false c d e f g = (refl, refl)
+  first-failed true true false d e f g = (refl, refl)
+  first-failed true true true false e f g = (refl, refl)
+  first-failed true true true true false f g = (refl, refl)
+  first-failed true true true true true false g = (refl, refl)
+  first-failed true true true true true true false = (refl, refl)
+  first-failed true true true true true true true = (refl, refl)
+
+  -- 3.8 and 3.10 have their equations the other way round
+  third-check : check23 i (m .slot) (m .accepted) (newest .matrix) ≡ line38own i (m .slot) (working m) newest
+  unfolding check23 line38own working variables
+  third-check = eqb-swap (newest .matrix (m .slot) i) (m .accepted (m .slot))
+
+  fifth-check : check25 n (m .slot) (stored .matrix) (newest .matrix) ≡ line310 n (m .slot) stored newest
   unfolding check25 line310
-  fourth-check = rw (eqb-swap (stored .matrix (m .slot) (m .slot)) (newest .matrix (m .slot) (m .slot)))
+  fifth-check = rw (eqb-swap (stored .matrix (m .slot) (m .slot)) (newest .matrix (m .slot) (m .slot)))
 
-  all-checks : (seals : ℕ)
-      → eqb (haltNumber n i m newest stored seals) 0
-      ≡ (line37 (newestHeld seals) (storedHeld seals)
-      && line38 n i (m .slot) (working m) newest
-      && line39 (m .slot) stored
-      && line310 n (m .slot) stored newest
-      && line312 n (m .slot) (working m) newest
-      && line312added n i (m .slot) (working m) newest)
-  unfolding haltNumber check21 check24 check26 check27 line39 idOf line312 line312added working variables
-  all-checks seals = rw (← sealed seals, ← second-check, ← fourth-check)
-      (none-fails (check21 seals)
-      (check22 n i (m .slot) (m .known) (newest .matrix))
-      (check23 i (m .slot) (m .accepted) (newest .matrix))
-      (check24 (m .slot) stored)
-      (check25 n (m .slot) (stored .matrix) (newest .matrix))
-      (check26 n (m .slot) (m .known) (newest .matrix))
-      (check27 n i (m .slot) (m .accepted) (newest .matrix)))
+  module _ (seals : ℕ) where
+    the-first : replied n i m newest stored seals
+        ≡ down
+        (line37 (newestHeld seals) (storedHeld seals))
+        (line38others n i (m .slot) (working m) newest)
+        (line38own i (m .slot) (working m) newest)
+        (line39 (m .slot) stored)
+        (line310 n (m .slot) stored newest)
+        (line312 n (m .slot) (working m) newest)
+        (line312added n i (m .slot) (working m) newest)
+    unfolding replied haltNumber check21 check22 check24 check26 check27 line38others line39 idOf line312 line312added working variables
+    the-first = rw (← sealed seals, ← third-check, ← fifth-check) (first-failed _ _ _ _ _ _ _ .0)
+
+    all-checks : eqb (replied n i m newest stored seals .phase) 3
+        ≡ (line37 (newestHeld seals) (storedHeld seals)
+        && line38 n i (m .slot) (working m) newest
+        && line39 (m .slot) stored
+        && line310 n (m .slot) stored newest
+        && line312 n (m .slot) (working m) newest
+        && line312added n i (m .slot) (working m) newest)
+    unfolding line38
+    all-checks = ap (λ left. eqb (left .phase) 3) the-first ∙ first-failed _ _ _ _ _ _ _ .1
 
 -- the matrix of 3.13 to 3.15
 same-matrix : (n i r : ℕ) (c : Client) (lso : Rec)
@@ -149,8 +184,8 @@ unfolding sentRecord passed ownRecord
 same-sent n i m newest stored = same-op n i m newest stored
 
 same-accepted : (m : Member)
-    → variables (completed m) (m .pending) ≡ afterOkWrites (m .operation) (m .slot) (m .first) (working m)
-unfolding working variables completed dropped tookOver afterOkWrites line321 line326 line327 line327writes
+    → variables (outcome m true) (m .pending) ≡ afterOkWrites (m .operation) (m .slot) (m .first) (working m)
+unfolding working variables outcome completed dropped tookOver afterOkWrites line321 line326 line327 line327writes
 same-accepted m = on (eqb (m .operation) write) (λ p. rw p) (λ p. rw p)
 
 same-return : (m : Member) (won : Bool) → returnedBy m won ≡ cond won (line328 (m .operation) (m .second)) none
@@ -161,19 +196,22 @@ same-return m false = refl
 -- a read carries value_suc, so that it stays what it is at 3.27
 same-whole : (n i : ℕ) (m : Member) (r t : ℕ) (v : Value) (newest stored : Rec)
     → let c = line316 t v (line33 r (resting m)) in
-    resting (completed (judged (passed n i (answered (begun m r t v) newest stored) newest stored) true))
+    resting (outcome (judged (passed n i (answered (begun m r t v) newest stored) newest stored) true) true)
     ≡ afterOk r (opOf n i t r c newest) c
-unfolding resting variables begun answered passed ownRecord judged completed dropped tookOver line316 line33 afterOk line321 line326 line327 opOf line319
+unfolding resting variables begun answered passed ownRecord judged outcome completed dropped tookOver line316 line33 afterOk line321 line326
+    line327 opOf line319
 same-whole n i m r t v newest stored =
     let matrices = same-matrix n i r (line316 t v (line33 r (resting m))) newest in
     on (eqb t write) (λ p. rw (matrices, p)) (λ p. rw (matrices, p))
 
 pub member-as-published : (n i : ℕ) → MemberAsPublished n i
-unfolding resting working variables begun submitOf line33 line34 line316 dropped afterAbortAmended line323
+unfolding resting working variables idle clientOpened begun submitOf line33 line34 line316 outcome dropped afterAbortAmended line323 down
 member-as-published n i = record {
+  opens = refl;
   begins = λ m r t v. refl;
   submits = λ m r t v. refl;
   checks = all-checks n i;
+  halts = the-first n i;
   commits = same-op n i;
   sends = same-sent n i;
   accepts = same-accepted;
@@ -181,6 +219,18 @@ member-as-published n i = record {
   returns = same-return;
   whole = same-whole n i;
 }
+
+pub opened-as-published : (n : ℕ) → OpenedAsPublished n
+unfolding opened openingEntry serverOpened
+opened-as-published n = record {
+  members = λ i. refl;
+  stored = λ r low high. within-at n zeroRecord opening r low high;
+  newest = λ r low high. ap (λ e. e .newest) (within-at n noEntry openingEntry r low high);
+}
+
+pub writes-as-printed : WritesAsPrinted
+unfolding line512 line512writes idOf
+writes-as-printed = record { stores = λ op s isWrite own. rw (isWrite, own) }
 
 -- Why document 01 differs: two runs of the printed lines in which an honest server makes a client halt.
 

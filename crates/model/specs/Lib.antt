@@ -2,6 +2,7 @@ pub mod Rows
 pub mod Records
 pub mod Kinds
 pub mod Numbers
+pub mod NumberClaims
 pub mod Member
 pub mod Host
 pub mod Board
@@ -19,3 +20,4 @@ pub mod Script
 pub mod Messages
 pub mod Published
 pub mod PublishedClaims
+pub mod MemberClaims

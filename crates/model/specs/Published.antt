@@ -72,9 +72,15 @@ unfoldable pub line37 : Bool → Bool → Bool
 line37 lsoVerified xOpVerified = lsoVerified && xOpVerified
 
 -- 3.8 if not ∀ k ≠ i : tsm_comp^r[k] ≤ lso.tsm^r[k] ∧ ts_suc[r] = lso.tsm^r[i] then halt
+-- (document 01 has a number for each part)
+unfoldable pub line38others : ℕ → ℕ → ℕ → Client → Rec → Bool
+line38others n i r c lso = each n (λ k. eqb k i || leb (c .tsmComp r k) (lso .matrix r k))
+
+unfoldable pub line38own : ℕ → ℕ → Client → Rec → Bool
+line38own i r c lso = eqb (c .tsSuc r) (lso .matrix r i)
+
 unfoldable pub line38 : ℕ → ℕ → ℕ → Client → Rec → Bool
-line38 n i r c lso =
-    each n (λ k. eqb k i || leb (c .tsmComp r k) (lso .matrix r k)) && eqb (c .tsSuc r) (lso .matrix r i)
+line38 n i r c lso = line38others n i r c lso && line38own i r c lso
 
 -- 3.9 if not x_op.id.client_id = r then halt
 unfoldable pub line39 : ℕ → Rec → Bool

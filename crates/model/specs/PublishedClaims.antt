@@ -1,22 +1,25 @@
 -- What is claimed: the member's and the host's definitions are the published rules of Published.antt, with document 01's differences.
-use Prim.Native.Nat.{ℕ, _/_, _%_}
+use Prim.Native.Nat.{ℕ, _/_, _%_, _≤_}
 use mathlib.Core.Path.{_≡_}
-use mathlib.Core.Bool.{Bool, true, cond, _&&_}
+use mathlib.Core.Bool.{Bool, true, false, cond, not, _&&_}
 use mathlib.Core.List.{List, [], _∷_, _++_}
 use mathlib.Core.Option.{none}
 use lib.Dec.{eqb}
-use Rattle.model.specs.Records.{Value, Rec}
+use Rattle.model.specs.Records.{Value, Rec, write}
 use Rattle.model.specs.Kinds.{Kind}
-use Rattle.model.specs.Member.{Member, begun, answered, haltNumber, passed, judged, completed, dropped, returnedBy}
+use Rattle.model.specs.Member.{Member, idle, begun, answered, replied, passed, failed, judged, outcome, returnedBy}
 use Rattle.model.specs.Board.{Board, opened, sentRecord}
 use Rattle.model.specs.Runs.{Call, begin, deliver, crash, answerOf, after}
 use Rattle.model.specs.Published.{
   Id,
   Client,
+  clientOpened,
   line33,
   line34,
   line37,
   line38,
+  line38others,
+  line38own,
   line39,
   line310,
   line312,
@@ -27,6 +30,7 @@ use Rattle.model.specs.Published.{
   afterOk,
   afterOkWrites,
   afterAbortAmended,
+  Server,
   serverOpened,
   ToServer,
   submit,
@@ -34,6 +38,7 @@ use Rattle.model.specs.Published.{
   FromServer,
   submitR,
   commitR,
+  line512,
   line512writes,
   serverAnswers,
 }
@@ -69,33 +74,47 @@ storedHeld seals = eqb (seals / 2) 1
 
 -- Of every state m of member i, honest host or not: the newest record of a reply is lso, the stored one x_op.
 pub record MemberAsPublished (n i : ℕ) : Type 0 where
+  -- the client's variables at first
+  pub opens : resting idle ≡ clientOpened
   -- begin is 3.3, and 3.16 made at once
   pub begins : (m : Member) (r t : ℕ) (v : Value) → working (begun m r t v) ≡ line316 t v (line33 r (resting m))
   -- its submit is that of 3.4 and 3.5
   pub submits : (m : Member) (r t : ℕ) (v : Value) → submitOf i (begun m r t v) ≡ line34 i t r (line33 r (resting m))
-  -- the member does not halt exactly when 3.7 to 3.12 and amendment 2's check pass
+  -- it goes on to its commit exactly when 3.7 to 3.12 and amendment 2's check pass
   pub checks : (m : Member) (newest stored : Rec) (seals : ℕ)
-      → eqb (haltNumber n i m newest stored seals) 0
+      → eqb (replied n i m newest stored seals .phase) 3
       ≡ (line37 (newestHeld seals) (storedHeld seals)
       && line38 n i (m .slot) (working m) newest
       && line39 (m .slot) stored
       && line310 n (m .slot) stored newest
       && line312 n (m .slot) (working m) newest
       && line312added n i (m .slot) (working m) newest)
+  -- and else halts, with the number that document 01 has for the first line that fails
+  pub halts : (m : Member) (newest stored : Rec) (seals : ℕ)
+      → replied n i m newest stored seals
+      ≡ cond (not (line37 (newestHeld seals) (storedHeld seals))) (failed m 21)
+      (cond (not (line38others n i (m .slot) (working m) newest)) (failed m 22)
+      (cond (not (line38own i (m .slot) (working m) newest)) (failed m 23)
+      (cond (not (line39 (m .slot) stored)) (failed m 24)
+      (cond (not (line310 n (m .slot) stored newest)) (failed m 25)
+      (cond (not (line312 n (m .slot) (working m) newest)) (failed m 26)
+      (cond (not (line312added n i (m .slot) (working m) newest)) (failed m 27)
+      (passed n i m newest stored)))))))
   -- its record, and what its commit sends, is the op of the COMMIT
   pub commits : (m : Member) (newest stored : Rec)
       → passed n i m newest stored .first ≡ opOf n i (m .operation) (m .slot) (working m) newest
   pub sends : (m : Member) (newest stored : Rec)
       → sentRecord i (passed n i m newest stored) ≡ opOf n i (m .operation) (m .slot) (working m) newest
   -- the outcome accepted is 3.21, 3.26 and document 01's 3.27; aborted it is 3.23, by amendment 1 without 3.21
-  pub accepts : (m : Member) → variables (completed m) (m .pending) ≡ afterOkWrites (m .operation) (m .slot) (m .first) (working m)
-  pub aborts : (m : Member) → resting (dropped m) ≡ afterAbortAmended (working m)
+  pub accepts : (m : Member)
+      → variables (outcome m true) (m .pending) ≡ afterOkWrites (m .operation) (m .slot) (m .first) (working m)
+  pub aborts : (m : Member) → resting (outcome m false) ≡ afterAbortAmended (working m)
   -- the value returned is 3.28's, and none after ABORT
   pub returns : (m : Member) (won : Bool) → returnedBy m won ≡ cond won (line328 (m .operation) (m .second)) none
   -- a whole operation that is accepted: Algorithm 3 as printed, 3.27 too
   pub whole : (m : Member) (r t : ℕ) (v : Value) (newest stored : Rec)
       → let c = line316 t v (line33 r (resting m)) in
-      resting (completed (judged (passed n i (answered (begun m r t v) newest stored) newest stored) true))
+      resting (outcome (judged (passed n i (answered (begun m r t v) newest stored) newest stored) true) true)
       ≡ afterOk r (opOf n i t r c newest) c
 
 -- The host.
@@ -138,3 +157,13 @@ answersOf kind n b (call ∷ calls) =
 pub record HostAsPublished (kind : Kind) (n : ℕ) (calls : List Call) : Type 0 where
   pub answers : serverAnswers line512writes serverOpened (messagesOf kind n (opened n) calls)
       ≡ answersOf kind n (opened n) calls
+
+-- The opening board's members are idle, and the records of slots 1 to n are X and lso of the opened server.
+pub record OpenedAsPublished (n : ℕ) : Type 0 where
+  pub members : (i : ℕ) → opened n .members i ≡ idle
+  pub stored : (r : ℕ) → 1 ≤ r → r ≤ n → opened n .stored r ≡ serverOpened .x r
+  pub newest : (r : ℕ) → 1 ≤ r → r ≤ n → opened n .host r .newest ≡ serverOpened .lso r
+
+-- Document 01's 5.12 is the printed one for a write, whose slot is its client's own.
+pub record WritesAsPrinted : Type 0 where
+  pub stores : (op : Rec) (s : Server) → op .operation ≡ write → op .member ≡ op .slot → line512writes op s ≡ line512 op s
