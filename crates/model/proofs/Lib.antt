@@ -13,3 +13,4 @@ pub mod History
 pub mod Demand3
 pub mod Published
 pub mod PublishedHost
+pub mod HostHalf

@@ -17,3 +17,4 @@ pub mod Script
 pub mod Messages
 pub mod Published
 pub mod PublishedClaims
+pub mod HostClaims
