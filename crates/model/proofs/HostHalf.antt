@@ -22,7 +22,6 @@ use Rattle.model.specs.Published.{
   ToServer,
   submit,
   commit,
-  FromServer,
   submitR,
   commitR,
   line54,
@@ -115,7 +114,7 @@ one-type kind i r t p q = on (eqb t write)
     (λ z. eqb-true t read z)
     (λ z. let y : false ≡ true = rw (z, w) at p in absurd (apart y refl)))))
 
-and-true : (t : Bool) → (t && true) ≡ t
+pub and-true : (t : Bool) → (t && true) ≡ t
 and-true true = refl
 and-true false = refl
 
@@ -287,7 +286,7 @@ record Printed (waiting : Id → Bool) (s t : Server) : Type 0 where
   pending : (r : ℕ) (a : Id) → a .reg ≡ r → s .pnd r a ≡ waiting a
   abrt : (r : ℕ) (a : Id) → a .reg ≡ r → waiting a ≡ true → s .abrt r a ≡ t .abrt r a
 
-or-false : (t : Bool) → (t || false) ≡ t
+pub or-false : (t : Bool) → (t || false) ≡ t
 or-false true = refl
 or-false false = refl
 
@@ -310,7 +309,8 @@ module _ (waiting : Id → Bool) (s t : Server) (h : Printed waiting s t) where
           (λ p. rw (p, off r a at p, or-false (waiting a)) (h .pending r a at));
       abrt = λ r a at w. on (eqb r (id .reg))
           (λ p. rw p (on (sameId a id)
-          (λ q. rw (q, h .pending (id .reg) a (at ∙ eqb-true r (id .reg) p), ap waiting (same-eq a id q), new) (sym (fails (t .pnd (id .reg) a) refl)))
+          (λ q. rw (q, h .pending (id .reg) a (at ∙ eqb-true r (id .reg) p), ap waiting (same-eq a id q), new)
+          (sym (fails (t .pnd (id .reg) a) refl)))
           (λ q. rw q (ap (λ f. f (id .reg) a) (h .pnd) ∙ sym (and-true (t .pnd (id .reg) a))))))
           (λ p. rw p (h .abrt r a at (rw (off r a at p, or-false (waiting a)) at w)));
     }

@@ -11,6 +11,7 @@ use Rattle.model.specs.Records.{Rec, read, write, opening}
 use Rattle.model.specs.Kinds.{Kind, isOperation, barred}
 use Rattle.model.specs.Host.{Entry, submitted, wins, entryAfter, storedAfter}
 use Rattle.model.specs.Board.{opened}
+use Rattle.model.specs.Runs.{Call}
 use Rattle.model.specs.Published.{
   Id,
   idOf,
@@ -32,6 +33,7 @@ use Rattle.model.specs.Published.{
   line513,
   serverAnswers,
 }
+use Rattle.model.specs.PublishedClaims.{messagesOf}
 
 -- The half.
 
@@ -95,8 +97,8 @@ notedAnswers s [] = []
 notedAnswers s (message ∷ messages) = notedAnswer s message ∷ notedAnswers (notedAfter s message) messages
 
 -- Each commit follows its own submit, once, and no submit comes again before its commit: waiting are the ids whose submit came and whose
--- commit did not. Members send such streams: one operation runs at a time, its submit goes out in phase 1 and its commit in phase 3,
--- once each, and the next begin is after the outcome; a member that halted or crashed begins no more.
+-- commit did not. Members send such streams, as RunSends says of every run: one operation runs at a time, its submit goes out in phase 1
+-- and its commit in phase 3, once each, and the next begin is after the outcome; a member that halted or crashed begins no more.
 unfoldable pub eachOnce : (Id → Bool) → List ToServer → Bool
 eachOnce waiting [] = true
 eachOnce waiting (submit id ∷ messages) = not (waiting id) && eachOnce (λ other. waiting other || sameId other id) messages
@@ -114,6 +116,11 @@ pub record HalfAsPublished (kind : Kind) (n : ℕ) (messages : List ToServer) : 
       → notedAnswers serverOpened messages ≡ halfAnswers kind (halfOpened n) messages
   pub printed : allFit kind n messages ≡ true → eachOnce noneWaiting messages ≡ true
       → serverAnswers line512writes serverOpened messages ≡ halfAnswers kind (halfOpened n) messages
+
+-- what the members of every run send meets both premises
+pub record RunSends (kind : Kind) (n : ℕ) (calls : List Call) : Type 0 where
+  pub fit : allFit kind n (messagesOf kind n (opened n) calls) ≡ true
+  pub once : eachOnce noneWaiting (messagesOf kind n (opened n) calls) ≡ true
 
 -- The difference at 5.9, of every operation op: the commit never submitted, and the commit that comes a second time. Algorithm 5 accepts
 -- both, and the half aborts both.
