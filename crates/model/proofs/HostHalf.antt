@@ -44,6 +44,7 @@ use Rattle.model.specs.HostClaims.{
   halfAnswer,
   halfAnswers,
   fits,
+  idIn,
   allFit,
   notedAfter,
   notedAnswer,
@@ -87,6 +88,9 @@ same-eq a b h =
     let reg = eqb-true (a .reg) (b .reg) (second types regs q) in
     λ i. record { client = client i; count = count i; operation = operation i; reg = reg i }
 
+pub not-same : (a b : Id) → (a ≡ b → ⊥) → sameId a b ≡ false
+not-same a b d = on (sameId a b) (λ q. absurd (d (same-eq a b q))) (λ q. q)
+
 -- what fits: a member from 1 on, a slot of the n, and a type that number 7 leaves one choice of
 module _ (kind : Kind) (n : ℕ) (a : Id) (f : fits kind n a ≡ true) where
   parts : (inside n (a .client) ≡ true) × (inside n (a .reg) ≡ true) × (isOperation (a .operation) ≡ true)
@@ -113,6 +117,14 @@ one-type kind i r t p q = on (eqb t write)
     (λ e. rw e (on (eqb t read)
     (λ z. eqb-true t read z)
     (λ z. let y : false ≡ true = rw (z, w) at p in absurd (apart y refl)))))
+
+pub or-false : (t : Bool) → (t || false) ≡ t
+or-false true = refl
+or-false false = refl
+
+pub none-both : (t : Bool) → (t && not t) ≡ false
+none-both true = refl
+none-both false = refl
 
 pub and-true : (t : Bool) → (t && true) ≡ t
 and-true true = refl
@@ -252,30 +264,34 @@ module _ (kind : Kind) (n : ℕ) (h : Half) (s : Server) (b : Beside kind n h s)
               (λ q. rw q (b .stored j w ∙ sym (ap (λ f. f j) (put-same (h .stored) r))));
           newest = λ j w. on (eqb j r) (λ z. rw z) (λ z. rw z (b .newest j w));
           mark = decided blank (λ a at f.
-              rw (marks-one kind n e a (idOf op) f fit at t, marks-blank kind n a op f) (none (sameId a (idOf op))));
+              rw (marks-one kind n e a (idOf op) f fit at t, marks-blank kind n a op f) (none-both (sameId a (idOf op))));
         }))
         (λ t. rw (verdict, t) (record {
           stored = λ j w. b .stored j w ∙ sym (ap (λ f. f j) (put-same (h .stored) r));
           newest = λ j w. b .newest j w ∙ sym (ap (λ f. f j .newest) (put-same (h .host) r));
           mark = decided e (λ a at f. marks-none kind n e a (idOf op) t);
         }))
-      where
-        none : (t : Bool) → (t && not t) ≡ false
-        none true = refl
-        none false = refl
+
+message-answer : (kind : Kind) (n : ℕ) (h : Half) (s : Server) → Beside kind n h s → (message : ToServer)
+    → fits kind n (idIn message) ≡ true → notedAnswer s message ≡ halfAnswer h message
+unfolding idIn
+message-answer kind n h s b (submit id) f = submit-answer kind n h s b id f
+message-answer kind n h s b (commit op) f = commit-answer kind n h s b op f
+
+message-beside : (kind : Kind) (n : ℕ) (h : Half) (s : Server) → Beside kind n h s → (message : ToServer)
+    → fits kind n (idIn message) ≡ true → Beside kind n (halfAfter kind h message) (notedAfter s message)
+unfolding idIn
+message-beside kind n h s b (submit id) f = submit-beside kind n h s b id f
+message-beside kind n h s b (commit op) f = commit-beside kind n h s b op f
 
 half-noted : (kind : Kind) (n : ℕ) (messages : List ToServer) (h : Half) (s : Server) → Beside kind n h s
     → allFit kind n messages ≡ true → notedAnswers s messages ≡ halfAnswers kind h messages
 unfolding allFit notedAnswers halfAnswers
 half-noted kind n [] h s b f = refl
-half-noted kind n (submit id ∷ messages) h s b f =
-    let one = first (fits kind n id) (allFit kind n messages) f in
-    ap₂ _∷_ (submit-answer kind n h s b id one)
-    (half-noted kind n messages _ _ (submit-beside kind n h s b id one) (second (fits kind n id) (allFit kind n messages) f))
-half-noted kind n (commit op ∷ messages) h s b f =
-    let one = first (fits kind n (idOf op)) (allFit kind n messages) f in
-    ap₂ _∷_ (commit-answer kind n h s b op one)
-    (half-noted kind n messages _ _ (commit-beside kind n h s b op one) (second (fits kind n (idOf op)) (allFit kind n messages) f))
+half-noted kind n (message ∷ messages) h s b f =
+    let one = first (fits kind n (idIn message)) (allFit kind n messages) f in
+    let rest = second (fits kind n (idIn message)) (allFit kind n messages) f in
+    ap₂ _∷_ (message-answer kind n h s b message one) (half-noted kind n messages _ _ (message-beside kind n h s b message one) rest)
 
 -- Document 01's 5.4 and 5.9 beside the printed ones: s is the server with the printed lines, t with document 01's.
 
@@ -285,14 +301,6 @@ record Printed (waiting : Id → Bool) (s t : Server) : Type 0 where
   pnd : s .pnd ≡ t .pnd
   pending : (r : ℕ) (a : Id) → a .reg ≡ r → s .pnd r a ≡ waiting a
   abrt : (r : ℕ) (a : Id) → a .reg ≡ r → waiting a ≡ true → s .abrt r a ≡ t .abrt r a
-
-pub or-false : (t : Bool) → (t || false) ≡ t
-or-false true = refl
-or-false false = refl
-
--- ids of two registers are apart
-not-same : (a b : Id) → (a .reg ≡ b .reg → ⊥) → sameId a b ≡ false
-not-same a b d = on (sameId a b) (λ q. absurd (d (ap (λ x. x .reg) (same-eq a b q)))) (λ q. q)
 
 module _ (waiting : Id → Bool) (s t : Server) (h : Printed waiting s t) where
   module _ (id : Id) (new : waiting id ≡ false) where
@@ -316,7 +324,7 @@ module _ (waiting : Id → Bool) (s t : Server) (h : Printed waiting s t) where
     }
       where
         off : (r : ℕ) (a : Id) → a .reg ≡ r → eqb r (id .reg) ≡ false → sameId a id ≡ false
-        off r a at p = not-same a id (λ z. eqb-false r (id .reg) p (sym at ∙ z))
+        off r a at p = not-same a id (λ z. eqb-false r (id .reg) p (sym at ∙ ap (λ x. x .reg) z))
 
   module _ (op : Rec) (came : waiting (idOf op) ≡ true) where
     same-verdict : line59 op s ≡ line59noted op t
@@ -336,7 +344,7 @@ module _ (waiting : Id → Bool) (s t : Server) (h : Printed waiting s t) where
           pnd = ap (λ p r. put p (id .reg) (λ other. p (id .reg) other && not (sameId other id)) r) (h .pnd);
           pending = λ r a at. on (eqb r (id .reg))
               (λ p. rw p (ap (λ x. x && not (sameId a id)) (h .pending (id .reg) a (at ∙ eqb-true r (id .reg) p))))
-              (λ p. let off : sameId a id ≡ false = not-same a id (λ z. eqb-false r (id .reg) p (sym at ∙ z)) in
+              (λ p. let off : sameId a id ≡ false = not-same a id (λ z. eqb-false r (id .reg) p (sym at ∙ ap (λ x. x .reg) z)) in
               rw (p, off, and-true (waiting a)) (h .pending r a at));
           abrt = λ r a at w. h .abrt r a at (first (waiting a) (not (sameId a id)) w);
         }
@@ -386,7 +394,7 @@ half-as-published kind n messages =
 -- The sample, and the differences.
 
 pub sample-holds : (kind : Kind) → SampleHolds kind
-unfolding allFit fits inside isOperation barred sample onSlot1 eachOnce noneWaiting idOf sameId
+unfolding allFit idIn fits inside isOperation barred sample onSlot1 eachOnce noneWaiting idOf sameId
     halfAnswers halfAnswer halfAfter halfOpened opened openingEntry within put submitted wins entryAfter storedAfter becomesStored
     sampleAnswers
     serverAnswers answerTo received serverOpened line54 line55 line56 line58 line59 line512writes line513

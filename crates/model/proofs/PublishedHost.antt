@@ -50,13 +50,14 @@ use Rattle.model.specs.HostClaims.{
   halfAnswer,
   halfAnswers,
   fits,
+  idIn,
   allFit,
   eachOnce,
   noneWaiting,
   RunSends,
 }
 use Rattle.model.proofs.Answers.{begin-taken, deliver-taken}
-use Rattle.model.proofs.HostHalf.{same-self, same-eq, or-false, and-true, half-as-published}
+use Rattle.model.proofs.HostHalf.{same-self, not-same, or-false, and-true, none-both, half-as-published}
 
 -- What member k has sent and not yet committed: between submit and commit its operation, and else nothing. A halted one sends no more.
 record Sends (kind : Kind) (n k : ℕ) (m : Member) (waiting : Id → Bool) : Type 0 where
@@ -66,14 +67,6 @@ record Sends (kind : Kind) (n k : ℕ) (m : Member) (waiting : Id → Bool) : Ty
 
 abbrev AllSend : Kind → ℕ → Board → (Id → Bool) → Type 0
 AllSend kind n b waiting = (k : ℕ) → Sends kind n k (b .members k) waiting
-
--- ids of two clients are apart
-not-same : (a b : Id) → (a .client ≡ b .client → ⊥) → sameId a b ≡ false
-not-same a b d = on (sameId a b) (λ q. absurd (d (ap (λ x. x .client) (same-eq a b q)))) (λ q. q)
-
-none : (t : Bool) → (t && not t) ≡ false
-none true = refl
-none false = refl
 
 -- Messages of a run from board b on, and the answers that its members get: the half gives the same.
 abbrev halfOf : Board → Half
@@ -124,7 +117,7 @@ module _ (kind : Kind) (n : ℕ) (b : Board) (waiting : Id → Bool) (h : AllSen
   submit-step : b .members i .phase ≡ 1
       → let m = submitTaken b i .members i in
       Step kind n b waiting (submitTaken b i) (submit (submitOf i (b .members i)) ∷ []) (submitR (m .second) (m .first) ∷ [])
-  unfolding submitTaken answered submitOf allFit eachOnce halfAnswers halfAnswer halfAfter
+  unfolding submitTaken answered submitOf idIn allFit eachOnce halfAnswers halfAnswer halfAfter
   submit-step p =
       let m = b .members i in
       let id = submitOf i m in
@@ -137,7 +130,7 @@ module _ (kind : Kind) (n : ℕ) (b : Board) (waiting : Id → Bool) (h : AllSen
             (record { fit = λ d. fit; waits = λ d a at. rw (none a at) })
             (λ k d. record {
               fit = h k .fit;
-              waits = λ e a at. rw (not-same a id (λ z. d (sym at ∙ z)), or-false (waiting a)) (h k .waits e a at);
+              waits = λ e a at. rw (not-same a id (λ z. d (sym at ∙ ap (λ x. x .client) z)), or-false (waiting a)) (h k .waits e a at);
             });
         talk = λ messages answers w. record {
           fit = both fit (w .fit);
@@ -161,7 +154,7 @@ module _ (kind : Kind) (n : ℕ) (b : Board) (waiting : Id → Bool) (h : AllSen
   commit-step : b .members i .phase ≡ 3
       → let m = commitTaken kind b i .members i in
       Step kind n b waiting (commitTaken kind b i) (commit (sentRecord i (b .members i)) ∷ []) (commitR (eqb (m .phase) 4) ∷ [])
-  unfolding commitTaken judged sentRecord submitOf idOf allFit eachOnce halfAnswers halfAnswer halfAfter
+  unfolding commitTaken judged sentRecord submitOf idOf idIn allFit eachOnce halfAnswers halfAnswer halfAfter
   commit-step p =
       let m = b .members i in
       let id = submitOf i m in
@@ -171,10 +164,10 @@ module _ (kind : Kind) (n : ℕ) (b : Board) (waiting : Id → Bool) (h : AllSen
       record {
         left = λ other. waiting other && not (sameId other id);
         sends = put-all (λ k m. Sends kind n k m (λ other. waiting other && not (sameId other id))) (b .members) i (judged m won)
-            (record { fit = λ d. fit; waits = λ d a at. rw (mine a at) (none (sameId a id) ∙ on won (λ t. rw t) (λ t. rw t)) })
+            (record { fit = λ d. fit; waits = λ d a at. rw (mine a at) (none-both (sameId a id) ∙ on won (λ t. rw t) (λ t. rw t)) })
             (λ k d. record {
               fit = h k .fit;
-              waits = λ e a at. rw (not-same a id (λ z. d (sym at ∙ z)), and-true (waiting a)) (h k .waits e a at);
+              waits = λ e a at. rw (not-same a id (λ z. d (sym at ∙ ap (λ x. x .client) z)), and-true (waiting a)) (h k .waits e a at);
             });
         talk = λ messages answers w. record {
           fit = both fit (w .fit);

@@ -77,10 +77,13 @@ fits kind n id =
     && isOperation (id .operation)
     && not (barred kind (id .client) (id .reg) (id .operation))
 
+unfoldable pub idIn : ToServer → Id
+idIn (submit id) = id
+idIn (commit op) = idOf op
+
 unfoldable pub allFit : Kind → ℕ → List ToServer → Bool
 allFit kind n [] = true
-allFit kind n (submit id ∷ messages) = fits kind n id && allFit kind n messages
-allFit kind n (commit op ∷ messages) = fits kind n (idOf op) && allFit kind n messages
+allFit kind n (message ∷ messages) = fits kind n (idIn message) && allFit kind n messages
 
 -- Algorithm 5 with document 01's 5.4, 5.9 and 5.12: no other line differs.
 
