@@ -93,10 +93,10 @@ not-same a b d = on (sameId a b) (λ q. absurd (d (same-eq a b q))) (λ q. q)
 
 -- what fits: a member from 1 on, a slot of the n, and a type that number 7 leaves one choice of
 module _ (kind : Kind) (n : ℕ) (a : Id) (f : fits kind n a ≡ true) where
-  parts : (inside n (a .client) ≡ true) × (inside n (a .reg) ≡ true) × (isOperation (a .operation) ≡ true)
+  pub fit-parts : (inside n (a .client) ≡ true) × (inside n (a .reg) ≡ true) × (isOperation (a .operation) ≡ true)
       × (barred kind (a .client) (a .reg) (a .operation) ≡ false)
   unfolding fits
-  parts = on (inside n (a .client))
+  fit-parts = on (inside n (a .client))
       (λ p. on (inside n (a .reg))
       (λ q. on (isOperation (a .operation))
       (λ t. on (barred kind (a .client) (a .reg) (a .operation))
@@ -151,9 +151,9 @@ module _ (kind : Kind) (n : ℕ) (e : Entry) (a b : Id) where
       equal p =
           let client = sym (named a p .0) ∙ named b m .0 in
           let count = sym (named a p .1) ∙ named b m .1 in
-          let operation = one-type kind (a .client) (a .reg) (a .operation) (parts kind n a f .2) (parts kind n a f .3)
+          let operation = one-type kind (a .client) (a .reg) (a .operation) (fit-parts kind n a f .2) (fit-parts kind n a f .3)
           ∙ ap₂ (λ i r. cond (eqb i r) write read) client regs
-          ∙ sym (one-type kind (b .client) (b .reg) (b .operation) (parts kind n b g .2) (parts kind n b g .3)) in
+          ∙ sym (one-type kind (b .client) (b .reg) (b .operation) (fit-parts kind n b g .2) (fit-parts kind n b g .3)) in
           λ i. record { client = client i; count = count i; operation = operation i; reg = regs i }
 
   -- and an id that it does not name is no other's
@@ -166,7 +166,7 @@ module _ (kind : Kind) (n : ℕ) (e : Entry) (a b : Id) where
 marks-blank : (kind : Kind) (n : ℕ) (a : Id) (newest : Rec) → fits kind n a ≡ true
     → marks (record { submitMember = 0; submitCount = 0; newest = newest }) a ≡ false
 marks-blank kind n a newest f =
-    let p : 1 ≤ a .client = inside-low n (a .client) (parts kind n a f .0) in
+    let p : 1 ≤ a .client = inside-low n (a .client) (fit-parts kind n a f .0) in
     rw (ne-eqb 0 (a .client) (λ z. omega arith))
 
 -- The half beside the server with document 01's lines.
@@ -203,14 +203,14 @@ unfolding halfOpened opened serverOpened within openingEntry
 beside-opened kind n = record {
   stored = λ r p. rw p;
   newest = λ r p. rw p;
-  mark = λ r a e f. let p : inside n r ≡ true = rw e at (parts kind n a f .1) in rw p (sym (marks-blank kind n a (opening r) f));
+  mark = λ r a e f. let p : inside n r ≡ true = rw e at (fit-parts kind n a f .1) in rw p (sym (marks-blank kind n a (opening r) f));
 }
 
 module _ (kind : Kind) (n : ℕ) (h : Half) (s : Server) (b : Beside kind n h s) where
   module _ (id : Id) (fit : fits kind n id ≡ true) where
     submit-answer : notedAnswer s (submit id) ≡ halfAnswer h (submit id)
     unfolding notedAnswer line56 halfAnswer
-    submit-answer = let p = parts kind n id fit .1 in ap₂ submitR (b .stored (id .reg) p) (b .newest (id .reg) p)
+    submit-answer = let p = fit-parts kind n id fit .1 in ap₂ submitR (b .stored (id .reg) p) (b .newest (id .reg) p)
 
     submit-beside : Beside kind n (halfAfter kind h (submit id)) (notedAfter s (submit id))
     unfolding halfAfter notedAfter line54noted line55 submitted put
@@ -413,8 +413,8 @@ half-differs kind n op f =
     let member = eq-eqb (op .member) (op .member) refl in
     let count = eq-eqb (op .count) (op .count) refl in
     let at = eq-eqb (op .slot) (op .slot) refl in
-    let p : inside n (op .slot) ≡ true = parts kind n (idOf op) f .1 in
-    let low : 1 ≤ op .member = inside-low n (op .member) (parts kind n (idOf op) f .0) in
+    let p : inside n (op .slot) ≡ true = fit-parts kind n (idOf op) f .1 in
+    let low : 1 ≤ op .member = inside-low n (op .member) (fit-parts kind n (idOf op) f .0) in
     let unmarked : eqb 0 (op .member) ≡ false = ne-eqb 0 (op .member) (λ z. omega arith) in
     record {
       unaskedServer = refl;

@@ -5,7 +5,7 @@ use Prim.Native.Nat.{ℕ}
 use mathlib.Core.Path.{_≡_}
 use mathlib.Core.Bool.{Bool, true, false, cond, not, _&&_, _||_}
 use mathlib.Core.List.{List, [], _∷_}
-use Rattle.lists.specs.Functions.{put, inside}
+use Rattle.lists.specs.Functions.{put, inside, within}
 use Rattle.model.specs.Rows.{zeroMatrix}
 use Rattle.model.specs.Records.{Rec, read, write, opening}
 use Rattle.model.specs.Kinds.{Kind, isOperation, barred}
@@ -152,9 +152,9 @@ pub record HalfDiffers (kind : Kind) (n : ℕ) (op : Rec) : Type 0 where
 -- A stream in which the premises hold, with its answers written out: on slot 1 of two, member 2's read overtakes member 1's write, which
 -- is aborted; the read is accepted; member 1 writes again, and member 2 reads what it wrote.
 
--- member i's operation of type t on slot 1, its k-th, with the value k in every word
+-- member i's operation of type t on slot 1, its k-th, with k in each of the value's 8 words
 unfoldable pub onSlot1 : ℕ → ℕ → ℕ → Rec
-onSlot1 i t k = record { member = i; slot = 1; operation = t; count = k; value = λ word. k; matrix = zeroMatrix }
+onSlot1 i t k = record { member = i; slot = 1; operation = t; count = k; value = within 8 0 (λ word. k); matrix = zeroMatrix }
 
 unfoldable pub sample : List ToServer
 sample =
