@@ -69,7 +69,8 @@ unfoldable pub halfAnswers : Kind → Half → List ToServer → List FromServer
 halfAnswers kind h [] = []
 halfAnswers kind h (message ∷ messages) = halfAnswer h message ∷ halfAnswers kind (halfAfter kind h message) messages
 
--- the fields are none of those that the half refuses by number 4, 5, 6 or 7 (hostNumber, Halves.antt)
+-- The fields are none of those that the half refuses by number 4, 5, 6 or 7 (hostNumber, Halves.antt). No member is 0, then, which a mark
+-- has for none; and by 7 a member's type on a slot is one, so that a mark, which has no type, names one id.
 unfoldable pub fits : Kind → ℕ → Id → Bool
 fits kind n id =
     inside n (id .client)
@@ -115,8 +116,10 @@ noneWaiting id = false
 -- The claims.
 
 pub record HalfAsPublished (kind : Kind) (n : ℕ) (messages : List ToServer) : Type 0 where
+  -- on every stream that fits, Algorithm 5 with document 01's lines
   pub noted : allFit kind n messages ≡ true
       → notedAnswers serverOpened messages ≡ halfAnswers kind (halfOpened n) messages
+  -- as printed but for 5.12, where each commit follows its own submit once
   pub printed : allFit kind n messages ≡ true → eachOnce noneWaiting messages ≡ true
       → serverAnswers line512writes serverOpened messages ≡ halfAnswers kind (halfOpened n) messages
 
@@ -125,15 +128,15 @@ pub record RunSends (kind : Kind) (n : ℕ) (calls : List Call) : Type 0 where
   pub fit : allFit kind n (messagesOf kind n (opened n) calls) ≡ true
   pub once : eachOnce noneWaiting (messagesOf kind n (opened n) calls) ≡ true
 
--- The difference at 5.9, of every operation op: the commit never submitted, and the commit that comes a second time. Algorithm 5 accepts
--- both, and the half aborts both.
+-- The difference at 5.9, of every operation op that fits: the commit never submitted, and the commit that comes a second time. Algorithm
+-- 5 accepts both, and the half aborts both.
 unfoldable pub unasked : Rec → List ToServer
 unasked op = commit op ∷ []
 
 unfoldable pub repeated : Rec → List ToServer
 repeated op = submit (idOf op) ∷ commit op ∷ commit op ∷ []
 
--- and at 5.4: the submit that comes a second time
+-- and at 5.4: after the submit that comes a second time Algorithm 5 aborts, and the half accepts
 unfoldable pub resubmitted : Rec → List ToServer
 resubmitted op = submit (idOf op) ∷ submit (idOf op) ∷ commit op ∷ []
 
