@@ -19,3 +19,4 @@ pub mod Demand3
 pub mod Published
 pub mod MemberClaims
 pub mod PublishedHost
+pub mod HostHalf

@@ -21,3 +21,4 @@ pub mod Messages
 pub mod Published
 pub mod PublishedClaims
 pub mod MemberClaims
+pub mod HostClaims

@@ -237,6 +237,16 @@ pub data FromServer : Type 0 where
 unfoldable pub line54 : Id → Server → Server
 line54 id s = record { pnd = s .pnd; abrt = put (s .abrt) (id .reg) (s .pnd (id .reg)); x = s .x; lso = s .lso }
 
+-- Document 01 differs: "the host notes (member, own count) as newest submit of the slot", so a submit that comes again is no other
+-- operation, and does not abort its own. As printed it does. No member sends one again.
+unfoldable pub line54noted : Id → Server → Server
+line54noted id s = record {
+  pnd = s .pnd;
+  abrt = put (s .abrt) (id .reg) (λ other. s .pnd (id .reg) other && not (sameId other id));
+  x = s .x;
+  lso = s .lso;
+}
+
 -- 5.5 Pnd[id.reg] ← Pnd[id.reg] ∪ {id}
 unfoldable pub line55 : Id → Server → Server
 line55 id s = record {
@@ -263,6 +273,13 @@ line58 op s = let reg = idOf op .reg in record {
 -- 5.9 if op.id ∈ Abrt[op.id.reg] then
 unfoldable pub line59 : Rec → Server → Bool
 line59 op s = s .abrt (idOf op .reg) (idOf op)
+
+-- Document 01 differs: accepted "if the newest submit is this member and own count .. Otherwise phase 5 and the host is unchanged". A
+-- commit that was never submitted, or that comes again, is in no Abrt, so that the printed line accepts it; the host half aborts it:
+-- here if it was not in Pnd before 5.8. HostClaims.antt has the difference, and that there is none where each commit follows its own
+-- submit once.
+unfoldable pub line59noted : Rec → Server → Bool
+line59noted op s = s .abrt (idOf op .reg) (idOf op) || not (s .pnd (idOf op .reg) (idOf op))
 
 -- 5.10 send (COMMIT_R, ABORT) to client i
 -- 5.11 else

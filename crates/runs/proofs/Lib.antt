@@ -4,3 +4,4 @@ pub mod Held
 pub mod Tables
 pub mod Scripts
 pub mod Words
+pub mod HostWords

@@ -22,7 +22,7 @@ use Rattle.model.proofs.AsReference.{board-phase}
 
 -- The member's steps.
 
-operation-small : (t : ℕ) → isOperation t ≡ true → (1 ≤ t) × (t ≤ 2)
+pub operation-small : (t : ℕ) → isOperation t ≡ true → (1 ≤ t) × (t ≤ 2)
 unfolding isOperation
 operation-small t h = on (eqb t read)
     (λ e. let d : t ≡ 1 = eqb-true t read e in (omega arith, omega arith))

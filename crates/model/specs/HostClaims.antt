@@ -1,0 +1,190 @@
+-- What is claimed of the host half alone, by its own definitions (Host.antt): fed any messages that it does not refuse, it answers as
+-- Algorithm 5's server with document 01's lines, and as the server with the printed 5.4 and 5.9 where each commit follows its own
+-- submit once. HostAsPublished (PublishedClaims.antt) is about the host of a board, whose messages come from its members.
+use Prim.Native.Nat.{ℕ}
+use mathlib.Core.Path.{_≡_}
+use mathlib.Core.Bool.{Bool, true, false, cond, not, _&&_, _||_}
+use mathlib.Core.List.{List, [], _∷_}
+use Rattle.lists.specs.Functions.{put, inside, within}
+use Rattle.model.specs.Rows.{zeroMatrix}
+use Rattle.model.specs.Records.{Rec, read, write, opening}
+use Rattle.model.specs.Kinds.{Kind, isOperation, barred}
+use Rattle.model.specs.Host.{Entry, submitted, wins, entryAfter, storedAfter}
+use Rattle.model.specs.Board.{opened}
+use Rattle.model.specs.Runs.{Call}
+use Rattle.model.specs.Published.{
+  Id,
+  idOf,
+  sameId,
+  Server,
+  serverOpened,
+  ToServer,
+  submit,
+  commit,
+  FromServer,
+  submitR,
+  commitR,
+  line54noted,
+  line55,
+  line56,
+  line58,
+  line59noted,
+  line512writes,
+  line513,
+  serverAnswers,
+}
+use Rattle.model.specs.PublishedClaims.{messagesOf}
+
+-- The half.
+
+-- "The host is lent the n host entries": these, and the stored records in them
+pub record Half : Type 0 where
+  pub host : ℕ → Entry
+  pub stored : ℕ → Rec
+
+-- "Opening sets every word zero but n and the host's opening records."
+unfoldable pub halfOpened : ℕ → Half
+halfOpened n = record { host = opened n .host; stored = opened n .stored }
+
+-- ".. and takes submits and commits as above, by the fields in them": what a message leaves, as submitWords and commitWords of
+-- Halves.antt have it
+unfoldable pub halfAfter : Kind → Half → ToServer → Half
+halfAfter kind h (submit id) = record {
+  host = put (h .host) (id .reg) (submitted (h .host (id .reg)) (id .client) (id .count));
+  stored = h .stored;
+}
+halfAfter kind h (commit op) =
+    let r = op .slot in
+    record {
+      host = put (h .host) r (entryAfter (h .host r) op);
+      stored = put (h .stored) r (storedAfter kind (h .host r) (h .stored r) op);
+    }
+
+-- and what it answers: the slot's stored and newest records, or whether the commit is accepted
+unfoldable pub halfAnswer : Half → ToServer → FromServer
+halfAnswer h (submit id) = submitR (h .stored (id .reg)) (h .host (id .reg) .newest)
+halfAnswer h (commit op) = commitR (wins (h .host (op .slot)) op)
+
+unfoldable pub halfAnswers : Kind → Half → List ToServer → List FromServer
+halfAnswers kind h [] = []
+halfAnswers kind h (message ∷ messages) = halfAnswer h message ∷ halfAnswers kind (halfAfter kind h message) messages
+
+-- The fields are none of those that the half refuses by number 4, 5, 6 or 7 (hostNumber, Halves.antt). No member is 0, then, which a mark
+-- has for none; and by 7 a member's type on a slot is one, so that a mark, which has no type, names one id.
+unfoldable pub fits : Kind → ℕ → Id → Bool
+fits kind n id =
+    inside n (id .client)
+    && inside n (id .reg)
+    && isOperation (id .operation)
+    && not (barred kind (id .client) (id .reg) (id .operation))
+
+unfoldable pub idIn : ToServer → Id
+idIn (submit id) = id
+idIn (commit op) = idOf op
+
+unfoldable pub allFit : Kind → ℕ → List ToServer → Bool
+allFit kind n [] = true
+allFit kind n (message ∷ messages) = fits kind n (idIn message) && allFit kind n messages
+
+-- Algorithm 5 with document 01's 5.4, 5.9 and 5.12: no other line differs.
+
+unfoldable pub notedAfter : Server → ToServer → Server
+notedAfter s (submit id) = line55 id (line54noted id s)
+notedAfter s (commit op) = let t = line58 op s in cond (line59noted op s) t (line513 op (line512writes op t))
+
+unfoldable pub notedAnswer : Server → ToServer → FromServer
+notedAnswer s (submit id) = line56 id s
+notedAnswer s (commit op) = commitR (not (line59noted op s))
+
+unfoldable pub notedAnswers : Server → List ToServer → List FromServer
+notedAnswers s [] = []
+notedAnswers s (message ∷ messages) = notedAnswer s message ∷ notedAnswers (notedAfter s message) messages
+
+-- Each commit follows its own submit, once, and no submit comes again before its commit: waiting are the ids whose submit came and whose
+-- commit did not. Members send such streams, as RunSends says of every run: one operation runs at a time, its submit goes out in phase 1
+-- and its commit in phase 3, once each, and the next begin is after the outcome; a member that halted or crashed begins no more.
+unfoldable pub eachOnce : (Id → Bool) → List ToServer → Bool
+eachOnce waiting [] = true
+eachOnce waiting (submit id ∷ messages) = not (waiting id) && eachOnce (λ other. waiting other || sameId other id) messages
+eachOnce waiting (commit op ∷ messages) =
+    waiting (idOf op) && eachOnce (λ other. waiting other && not (sameId other (idOf op))) messages
+
+-- nothing is submitted yet
+unfoldable pub noneWaiting : Id → Bool
+noneWaiting id = false
+
+-- The claims.
+
+pub record HalfAsPublished (kind : Kind) (n : ℕ) (messages : List ToServer) : Type 0 where
+  -- on every stream that fits, Algorithm 5 with document 01's lines
+  pub noted : allFit kind n messages ≡ true
+      → notedAnswers serverOpened messages ≡ halfAnswers kind (halfOpened n) messages
+  -- as printed but for 5.12, where each commit follows its own submit once
+  pub printed : allFit kind n messages ≡ true → eachOnce noneWaiting messages ≡ true
+      → serverAnswers line512writes serverOpened messages ≡ halfAnswers kind (halfOpened n) messages
+
+-- what the members of every run send meets both premises
+pub record RunSends (kind : Kind) (n : ℕ) (calls : List Call) : Type 0 where
+  pub fit : allFit kind n (messagesOf kind n (opened n) calls) ≡ true
+  pub once : eachOnce noneWaiting (messagesOf kind n (opened n) calls) ≡ true
+
+-- The difference at 5.9, of every operation op that fits: the commit never submitted, and the commit that comes a second time. Algorithm
+-- 5 accepts both, and the half aborts both.
+unfoldable pub unasked : Rec → List ToServer
+unasked op = commit op ∷ []
+
+unfoldable pub repeated : Rec → List ToServer
+repeated op = submit (idOf op) ∷ commit op ∷ commit op ∷ []
+
+-- and at 5.4: after the submit that comes a second time Algorithm 5 aborts, and the half accepts
+unfoldable pub resubmitted : Rec → List ToServer
+resubmitted op = submit (idOf op) ∷ submit (idOf op) ∷ commit op ∷ []
+
+pub record HalfDiffers (kind : Kind) (n : ℕ) (op : Rec) : Type 0 where
+  pub unaskedServer : serverAnswers line512writes serverOpened (unasked op) ≡ commitR true ∷ []
+  pub unaskedHalf : halfAnswers kind (halfOpened n) (unasked op) ≡ commitR false ∷ []
+  pub repeatedServer : serverAnswers line512writes serverOpened (repeated op)
+      ≡ submitR (opening (op .slot)) (opening (op .slot)) ∷ commitR true ∷ commitR true ∷ []
+  pub repeatedHalf : halfAnswers kind (halfOpened n) (repeated op)
+      ≡ submitR (opening (op .slot)) (opening (op .slot)) ∷ commitR true ∷ commitR false ∷ []
+  pub resubmittedServer : serverAnswers line512writes serverOpened (resubmitted op)
+      ≡ submitR (opening (op .slot)) (opening (op .slot)) ∷ submitR (opening (op .slot)) (opening (op .slot)) ∷ commitR false ∷ []
+  pub resubmittedHalf : halfAnswers kind (halfOpened n) (resubmitted op)
+      ≡ submitR (opening (op .slot)) (opening (op .slot)) ∷ submitR (opening (op .slot)) (opening (op .slot)) ∷ commitR true ∷ []
+
+-- A stream in which the premises hold, with its answers written out: on slot 1 of two, member 2's read overtakes member 1's write, which
+-- is aborted; the read is accepted; member 1 writes again, and member 2 reads what it wrote.
+
+-- member i's operation of type t on slot 1, its k-th, with k in each of the value's 8 words
+unfoldable pub onSlot1 : ℕ → ℕ → ℕ → Rec
+onSlot1 i t k = record { member = i; slot = 1; operation = t; count = k; value = within 8 0 (λ word. k); matrix = zeroMatrix }
+
+unfoldable pub sample : List ToServer
+sample =
+    submit (record { client = 1; count = 1; operation = write; reg = 1 })
+    ∷ submit (record { client = 2; count = 1; operation = read; reg = 1 })
+    ∷ commit (onSlot1 1 write 1)
+    ∷ commit (onSlot1 2 read 1)
+    ∷ submit (record { client = 1; count = 2; operation = write; reg = 1 })
+    ∷ commit (onSlot1 1 write 2)
+    ∷ submit (record { client = 2; count = 2; operation = read; reg = 1 })
+    ∷ commit (onSlot1 2 read 2)
+    ∷ []
+
+unfoldable pub sampleAnswers : List FromServer
+sampleAnswers =
+    submitR (opening 1) (opening 1)
+    ∷ submitR (opening 1) (opening 1)
+    ∷ commitR false
+    ∷ commitR true
+    ∷ submitR (opening 1) (onSlot1 2 read 1)
+    ∷ commitR true
+    ∷ submitR (onSlot1 1 write 2) (onSlot1 1 write 2)
+    ∷ commitR true
+    ∷ []
+
+pub record SampleHolds (kind : Kind) : Type 0 where
+  pub fit : allFit kind 2 sample ≡ true
+  pub once : eachOnce noneWaiting sample ≡ true
+  pub answers : halfAnswers kind (halfOpened 2) sample ≡ sampleAnswers
+  pub server : serverAnswers line512writes serverOpened sample ≡ sampleAnswers

@@ -1,0 +1,290 @@
+-- The host half's calls on words answer as Algorithm 5's server: the words of a sound half decode to it, so that each call is the half's
+-- step (HostHalf.antt). Assumes nothing.
+use Prim.Native.Nat.{ℕ}
+use native.Mathlib.Omega.{arith}
+use mathlib.Core.Path.{_≡_, refl, sym, ap, ap₂, _∙_}
+use mathlib.Core.Bool.{Bool, true, false, cond, not, _&&_}
+use mathlib.Core.List.{List, [], _∷_}
+use lib.Dec.{eqb}
+use lib.ListN.{length}
+use borrow.Author.Tests.{eq-eqb}
+use Rattle.lists.specs.Functions.{put, inside, within}
+use Rattle.lists.specs.Parts.{words}
+use Rattle.lists.proofs.Functions.{on, both, apart, put-same, put-all, put-both, each-all, inside-in, inside-high, within-off, within-same}
+use Rattle.lists.proofs.Pieces.{pieces-laid}
+use Rattle.model.specs.Records.{Rec, read, write, zeroRecord, recordWithin}
+use Rattle.model.specs.Kinds.{Kind, isOperation, barred, becomesStored}
+use Rattle.model.specs.Host.{Entry, submitted, wins, entryAfter, storedAfter}
+use Rattle.model.specs.Board.{noEntry}
+use Rattle.model.specs.Demand3.{Every}
+use Rattle.model.specs.Table.{
+  entrySize,
+  hostSize,
+  entryOf,
+  storedOf,
+  entryWords,
+  hostOf,
+  storedRecordsOf,
+  hostWords,
+  soundRecord,
+  soundEntry,
+  soundHost,
+  entriesNumber,
+}
+use Rattle.model.specs.Halves.{hostNumber, submitWords, submitNewest, submitStored, commitNumber, commitOutcome, commitWords}
+use Rattle.model.specs.Published.{Id, idOf, ToServer, submit, commit, submitR}
+use Rattle.model.specs.HostClaims.{
+  Half,
+  halfOpened,
+  halfAfter,
+  halfAnswer,
+  halfAnswers,
+  fits,
+  idIn,
+  allFit,
+  eachOnce,
+  noneWaiting,
+  onSlot1,
+  sample,
+}
+use Rattle.model.proofs.HostHalf.{fit-parts, half-as-published, sample-holds}
+use Rattle.laws.proofs.Records.{recordOf-words, within-zeroRecord}
+use Rattle.laws.proofs.Blocks.{entry-same, stored-same, length-entry, entry-read, stored-read}
+use Rattle.laws.proofs.Tables.{length-host}
+use Rattle.laws.proofs.Sound.{record-sound, SoundSlot, entry-sound}
+use Rattle.runs.specs.HostWords.{
+  entriesOpened,
+  callNumber,
+  callWords,
+  callAnswer,
+  callAnswers,
+  taken,
+  MessageHeld,
+  WordsAsPublished,
+  strayed,
+  SampleInWords,
+}
+use Rattle.runs.proofs.Sound.{operation-small, opened-sound}
+use Rattle.runs.proofs.Held.{blank-off, opened-held}
+
+-- A half that words can hold, and that number 3 does not refuse.
+record Kept (n : ℕ) (h : Half) : Type 0 where
+  newest : (r : ℕ) → recordWithin n (h .host r .newest) ≡ h .host r .newest
+  hostOff : (r : ℕ) → inside n r ≡ false → h .host r ≡ noEntry
+  stored : (r : ℕ) → recordWithin n (h .stored r) ≡ h .stored r
+  storedOff : (r : ℕ) → inside n r ≡ false → h .stored r ≡ zeroRecord
+  slots : (r : ℕ) → inside n r ≡ true → SoundSlot n (h .host r) (h .stored r)
+
+opened-kept : (kind : Kind) (n : ℕ) → Kept n (halfOpened n)
+unfolding halfOpened
+opened-kept kind n =
+    let h = opened-held n in
+    record { newest = h .newest; hostOff = h .hostOff; stored = h .stored; storedOff = h .storedOff; slots = opened-sound kind n .slots }
+
+abbrev wordsOf : ℕ → Half → List ℕ
+wordsOf n h = hostWords n (h .host) (h .stored)
+
+module _ (n : ℕ) (h : Half) (k : Kept n h) where
+  host-read : hostOf n (words (wordsOf n h)) ≡ h .host
+  unfolding hostOf hostWords
+  host-read =
+      pieces-laid n noEntry (entrySize n) (entryOf n) (entry-same n) (λ r. entryWords n (h .host r) (h .stored r))
+      (λ r p q. length-entry n (h .host r) (h .stored r))
+      ∙ within-same n noEntry (λ r. entryOf n (words (entryWords n (h .host r) (h .stored r)))) (h .host)
+      (λ r p q. entry-read n (h .host r) (h .stored r) (recordOf-words n (h .host r .newest) ∙ k .newest r))
+      ∙ blank-off n noEntry (h .host) (k .hostOff)
+
+  stored-records-read : storedRecordsOf n (words (wordsOf n h)) ≡ h .stored
+  unfolding storedRecordsOf hostWords
+  stored-records-read =
+      pieces-laid n zeroRecord (entrySize n) (storedOf n) (stored-same n) (λ r. entryWords n (h .host r) (h .stored r))
+      (λ r p q. length-entry n (h .host r) (h .stored r))
+      ∙ within-same n zeroRecord (λ r. storedOf n (words (entryWords n (h .host r) (h .stored r)))) (h .stored)
+      (λ r p q. stored-read n (h .host r) (h .stored r) (recordOf-words n (h .stored r) ∙ k .stored r))
+      ∙ blank-off n zeroRecord (h .stored) (k .storedOff)
+
+  sound : soundHost n (h .host) (h .stored) ≡ true
+  unfolding soundHost
+  sound = each-all n (λ r. soundEntry n (h .host r) (h .stored r))
+      (λ r p q. entry-sound n (h .host r) (h .stored r) (k .slots r (inside-in n r p q)))
+
+-- the first of 4 to 7 that holds
+none-holds : (a b c d : Bool) → eqb (cond (not a) 4 (cond (not b) 5 (cond (not c) 6 (cond d 7 0)))) 0 ≡ (a && b && c && not d)
+none-holds false b c d = refl
+none-holds true false c d = refl
+none-holds true true false d = refl
+none-holds true true true false = refl
+none-holds true true true true = refl
+
+module _ (kind : Kind) (n : ℕ) (size : inside 12 n ≡ true) (h : Half) (k : Kept n h) where
+  -- a call's number: none of its own words' grounds holds, so it is 0 exactly where the fields fit
+  fields-number : (id : Id) → eqb (hostNumber kind n (wordsOf n h) (id .client) (id .reg) (id .operation)) 0 ≡ fits kind n id
+  unfolding hostNumber entriesNumber fits
+  fields-number id = rw (
+    size,
+    eq-eqb (length (wordsOf n h)) (hostSize n) (length-host n (h .host) (h .stored)),
+    host-read n h k,
+    stored-records-read n h k,
+    sound n h k,
+  ) (none-holds
+      (inside n (id .client))
+      (inside n (id .reg))
+      (isOperation (id .operation))
+      (barred kind (id .client) (id .reg) (id .operation)))
+
+  same-number : (message : ToServer) → eqb (callNumber kind n (wordsOf n h) message) 0 ≡ fits kind n (idIn message)
+  unfolding callNumber commitNumber idIn idOf
+  same-number (submit id) = fields-number id
+  same-number (commit op) = fields-number (idOf op)
+
+  -- a call that is refused leaves the words
+  refused-words : (message : ToServer) → fits kind n (idIn message) ≡ false → callWords kind n (wordsOf n h) message ≡ wordsOf n h
+  unfolding callWords submitWords commitWords commitNumber idIn idOf
+  refused-words (submit id) f = rw (fields-number id, f)
+  refused-words (commit op) f = rw (fields-number (idOf op), f)
+
+  -- one that is not leaves the words of the half after it, and hands back its answer
+  same-words : (message : ToServer) → fits kind n (idIn message) ≡ true
+      → callWords kind n (wordsOf n h) message ≡ wordsOf n (halfAfter kind h message)
+  unfolding callWords submitWords commitWords commitNumber idIn idOf halfAfter
+  same-words (submit id) f = rw (fields-number id, f, host-read n h k, stored-records-read n h k)
+  same-words (commit op) f = rw (fields-number (idOf op), f, host-read n h k, stored-records-read n h k)
+
+  same-answer : (message : ToServer) → fits kind n (idIn message) ≡ true
+      → callAnswer kind n (wordsOf n h) message ≡ halfAnswer h message
+  unfolding callAnswer submitNewest submitStored commitOutcome commitNumber idIn idOf halfAnswer
+  same-answer (submit id) f =
+      ap₂ (λ stored host. submitR (stored (id .reg)) (host (id .reg) .newest)) (stored-records-read n h k) (host-read n h k)
+  same-answer (commit op) f = rw (fields-number (idOf op), f, host-read n h k)
+      (on (wins (h .host (op .slot)) op) (λ t. rw t) (λ t. rw t))
+
+  -- The half after it is again one that words can hold: a slot's entry and its stored record replaced by ones that they can.
+  slot-kept : (r : ℕ) (e : Entry) (s : Rec) → inside n r ≡ true → recordWithin n (e .newest) ≡ e .newest → recordWithin n s ≡ s
+      → SoundSlot n e s → Kept n (record { host = put (h .host) r e; stored = put (h .stored) r s })
+  slot-kept r e s p a b c = record {
+    newest = put-all (λ j e. recordWithin n (e .newest) ≡ e .newest) (h .host) r e a (λ j d. k .newest j);
+    hostOff = put-all (λ j e. inside n j ≡ false → e ≡ noEntry) (h .host) r e (λ q. absurd (apart p q)) (λ j d. k .hostOff j);
+    stored = put-all (λ j s. recordWithin n s ≡ s) (h .stored) r s b (λ j d. k .stored j);
+    storedOff = put-all (λ j s. inside n j ≡ false → s ≡ zeroRecord) (h .stored) r s (λ q. absurd (apart p q)) (λ j d. k .storedOff j);
+    slots = put-both (λ j e s. inside n j ≡ true → SoundSlot n e s) (h .host) (h .stored) r e s (λ q. c) (λ j d. k .slots j);
+  }
+
+  submit-kept : (id : Id) → fits kind n id ≡ true → Kept n (halfAfter kind h (submit id))
+  unfolding halfAfter submitted
+  submit-kept id f =
+      let p = fit-parts kind n id f in
+      let r = id .reg in
+      let s = k .slots r (p .1) in
+      let e = submitted (h .host r) (id .client) (id .count) in
+      rw (put-same (h .stored) r) at
+      (slot-kept r e (h .stored r) (p .1) (k .newest r) (k .stored r) (inside-high n (id .client) (p .0), s .1, s .2))
+
+  commit-kept : (op : Rec) → fits kind n (idOf op) ≡ true → recordWithin n op ≡ op → Kept n (halfAfter kind h (commit op))
+  unfolding halfAfter entryAfter storedAfter idOf
+  commit-kept op f held =
+      let p = fit-parts kind n (idOf op) f in
+      let r = op .slot in
+      let e = h .host r in
+      let s = k .slots r (p .1) in
+      slot-kept r (entryAfter e op) (storedAfter kind e (h .stored r) op) (p .1)
+      (on (wins e op) (λ t. rw t held) (λ t. rw t (k .newest r)))
+      (on (wins e op && becomesStored kind op) (λ t. rw t held) (λ t. rw t (k .stored r))) (
+        on (wins e op) (λ t. rw t (omega arith)) (λ t. rw t (s .0)),
+        on (wins e op && becomesStored kind op) (λ t. rw t op-sound) (λ t. rw t (s .1)),
+        on (wins e op) (λ t. rw t op-sound) (λ t. rw t (s .2)),
+      )
+    where
+      op-sound : soundRecord n op ≡ true
+      op-sound =
+          let p = fit-parts kind n (idOf op) f in
+          record-sound (record {
+            member = inside-high n (op .member) (p .0);
+            slot = inside-high n (op .slot) (p .1);
+            operation = operation-small (op .operation) (p .2) .1;
+          })
+
+  message-kept : (message : ToServer) → fits kind n (idIn message) ≡ true → MessageHeld n message → Kept n (halfAfter kind h message)
+  unfolding idIn
+  message-kept (submit id) f held = submit-kept id f
+  message-kept (commit op) f held = commit-kept op f held
+
+same-answers : (kind : Kind) (n : ℕ) → inside 12 n ≡ true → (messages : List ToServer) → Every (MessageHeld n) messages
+    → (h : Half) → Kept n h
+    → halfAnswers kind h (taken kind n messages) ≡ callAnswers kind n (wordsOf n h) messages
+unfolding taken callAnswers halfAnswers
+same-answers kind n size [] v h k = refl
+same-answers kind n size (message ∷ messages) v h k = on (fits kind n (idIn message))
+    (λ f. rw (same-number kind n size h k message, f) (ap₂ _∷_
+    (sym (same-answer kind n size h k message f))
+    (same-answers kind n size messages (v .1) (halfAfter kind h message) (message-kept kind n size h k message f (v .0))
+    ∙ ap (λ l. callAnswers kind n l messages) (sym (same-words kind n size h k message f)))))
+    (λ f. rw (same-number kind n size h k message, f, refused-words kind n size h k message f)
+    (same-answers kind n size messages (v .1) h k))
+
+taken-fit : (kind : Kind) (n : ℕ) (messages : List ToServer) → allFit kind n (taken kind n messages) ≡ true
+unfolding taken allFit
+taken-fit kind n [] = refl
+taken-fit kind n (message ∷ messages) = on (fits kind n (idIn message))
+    (λ f. rw f (both f (taken-fit kind n messages)))
+    (λ f. rw f (taken-fit kind n messages))
+
+pub words-as-published : (kind : Kind) (n : ℕ) → inside 12 n ≡ true → (messages : List ToServer) → Every (MessageHeld n) messages
+    → WordsAsPublished kind n messages
+unfolding entriesOpened halfOpened
+words-as-published kind n size messages v =
+    let p = half-as-published kind n (taken kind n messages) in
+    let fit = taken-fit kind n messages in
+    let same = same-answers kind n size messages v (halfOpened n) (opened-kept kind n) in
+    record { noted = p .noted fit ∙ same; printed = λ once. p .printed fit once ∙ same }
+
+-- The sample.
+
+on-slot-held : (i t k : ℕ) → recordWithin 2 (onSlot1 i t k) ≡ onSlot1 i t k
+unfolding onSlot1 recordWithin zeroRecord
+on-slot-held i t k = λ j. record {
+  member = i;
+  slot = 1;
+  operation = t;
+  count = k;
+  value = blank-off 8 0 (within 8 0 (λ word. k)) (λ word p. within-off 8 0 (λ word. k) word p) j;
+  matrix = ap (λ r. r .matrix) (within-zeroRecord 2) j;
+}
+
+strayed-held : Every (MessageHeld 2) strayed
+unfolding strayed sample
+strayed-held = (
+  tt,
+  (
+    tt,
+    (
+      tt,
+      (
+        on-slot-held 1 write 1,
+        (
+          on-slot-held 2 read 1,
+          (
+            tt,
+            (
+              on-slot-held 1 write 2,
+              (tt, (on-slot-held 2 read 2, tt)),
+            ),
+          ),
+        ),
+      ),
+    ),
+  ),
+)
+
+strayed-taken : (kind : Kind) → taken kind 2 strayed ≡ sample
+unfolding taken strayed sample fits idIn idOf inside isOperation barred onSlot1
+strayed-taken kind = refl
+
+pub sample-in-words : (kind : Kind) → SampleInWords kind
+sample-in-words kind =
+    let s = sample-holds kind in
+    let p = words-as-published kind 2 (inside-in 12 2 (omega arith) (omega arith)) strayed strayed-held in
+    record {
+      held = strayed-held;
+      refused = strayed-taken kind;
+      answers = sym (rw (strayed-taken kind) at (p .printed (ap (eachOnce noneWaiting) (strayed-taken kind) ∙ s .once))) ∙ s .server;
+    }
