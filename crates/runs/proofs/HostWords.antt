@@ -16,7 +16,7 @@ use Rattle.model.specs.Records.{Rec, read, write, zeroRecord, recordWithin}
 use Rattle.model.specs.Kinds.{Kind, isOperation, barred, becomesStored}
 use Rattle.model.specs.Host.{Entry, submitted, wins, entryAfter, storedAfter}
 use Rattle.model.specs.Board.{noEntry}
-use Rattle.model.specs.Demand3.{Every}
+use Rattle.lists.specs.Every.{Every}
 use Rattle.model.specs.Table.{
   entrySize,
   hostSize,

@@ -8,7 +8,7 @@ use lib.Dec.{eqb}
 use Rattle.model.specs.Records.{write, recordWithin}
 use Rattle.model.specs.Kinds.{Kind}
 use Rattle.model.specs.Board.{opened}
-use Rattle.model.specs.Demand3.{Every}
+use Rattle.lists.specs.Every.{Every}
 use Rattle.model.specs.Table.{hostWords}
 use Rattle.model.specs.Halves.{hostNumber, submitWords, submitNewest, submitStored, commitNumber, commitOutcome, commitWords}
 use Rattle.model.specs.Published.{
