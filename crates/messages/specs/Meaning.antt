@@ -62,15 +62,15 @@ fieldsOf (some (reply a b)) = record {
   newest = a;
   stored = b;
 }
-fieldsOf (some (commit a)) = record {
+fieldsOf (some (commit r)) = record {
   kind = 3;
   member = 0;
   slot = 0;
   operation = 0;
   count = 0;
   result = 0;
-  newest = a;
-  stored = zeroRecord;
+  newest = r;
+  stored = zeroRecord;  -- a commit has one record
 }
 fieldsOf (some (outcome o)) = record {
   kind = 4;
