@@ -26,8 +26,8 @@ use Rattle.records.specs.declared.Record.{Record}
 use Rattle.records.specs.Meaning.{recordIn}
 use Rattle.records.proofs.Record as recordType
 use Rattle.messages.specs.declared.Message.{Message}
-use Rattle.messages.specs.Meaning.{fieldsIn}
-use Rattle.messages.specs.RoundTrip.{smallFields, numberWritten, ReadBack}
+use Rattle.messages.specs.Meaning.{fieldsIn, numberWritten}
+use Rattle.messages.specs.RoundTrip.{smallFields, ReadBack}
 use Rattle.messages.proofs.Message as messageType
 use Rattle.messages.proofs.RoundTrip.{round-trip}
 

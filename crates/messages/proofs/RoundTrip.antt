@@ -65,11 +65,9 @@ use Rattle.laws.proofs.Messages.{
   read-back,
   written-again,
 }
-use Rattle.messages.specs.Meaning.{Fields, fieldsOf, messageOf}
+use Rattle.messages.specs.Meaning.{Fields, fieldsOf, messageOf, fieldsRead, numberWritten}
 use Rattle.messages.specs.RoundTrip.{
-  numberWritten,
   sent,
-  fieldsRead,
   fieldsWithin,
   smallFields,
   ReadBack,

@@ -9,27 +9,12 @@ use lib.Dec.{eqb, ltb}
 use lib.ListN.{length, take, drop}
 use Rattle.lists.specs.Parts.{tabulate}
 use Rattle.model.specs.Records.{Rec, zeroRecord, recordWithin}
-use Rattle.model.specs.Messages.{readNumber, decode, writtenLength, writeNumber, writable, writtenTo, smallRecord, Bytes}
-use Rattle.messages.specs.Meaning.{Fields, fieldsOf, messageOf}
+use Rattle.model.specs.Messages.{readNumber, smallRecord, Bytes}
+use Rattle.messages.specs.Meaning.{Fields, fieldsRead, numberWritten, lengthWritten, outputAfter}
 
--- The two calls, as their contracts say them. `write` of a message that holds f, on a board of n, to the output `out`: its number, its
--- length, and the output after it; what it wrote is the output's front.
-
-abbrev pub numberWritten : ℕ → Fields → List ℕ → ℕ
-numberWritten n f out = writeNumber n (messageOf f) (length out)
-
-abbrev pub lengthWritten : ℕ → Fields → List ℕ → ℕ
-lengthWritten n f out = writtenLength n (writable n (messageOf f) (length out))
-
-abbrev pub outputAfter : ℕ → Fields → List ℕ → List ℕ
-outputAfter n f out = writtenTo n (writable n (messageOf f) (length out)) out
-
+-- the bytes that a call of `write` wrote: the front of its output
 abbrev pub sent : ℕ → Fields → List ℕ → List ℕ
 sent n f out = take (lengthWritten n f out) (outputAfter n f out)
-
--- `read` of the bytes l on a board of n: its number is `readNumber n l`, and this is what the message then holds.
-abbrev pub fieldsRead : ℕ → List ℕ → Fields
-fieldsRead n l = fieldsOf (decode n l)
 
 -- What a board of n has of a message by value: the parts of its kind, records cut to slots and members 1 to n, every other part zero.
 -- "Kind 1 submit: member, slot, type .., count .. Kind 2 reply: n, newest record, stored record .. Kind 3 commit: n, record .. Kind 4
