@@ -2,13 +2,14 @@
 -- between a value and the machine's, bounds each `u32` in it. So the first half of the round trip has no premise there (`of-structs`).
 use Prim.Native.Nat.{ℕ, zero, suc, _-_, _<_}
 use native.Mathlib.Omega.{arith}
-use mathlib.Core.Path.{_≡_}
+use mathlib.Core.Path.{_≡_, refl, ap}
 use mathlib.Core.Bool.{true}
 use mathlib.Core.List.{List, [], _∷_, map}
 use lib.Dec.{ltb}
-use lib.ListN.{getD}
+use lib.ListN.{length, getD, replicate}
 use borrow.Author.Tests.{lt-ltb}
-use mir.Val.{Val}
+use mir.Syntax.{w32}
+use mir.Val.{Val, vint}
 use denote.Shadow.{shadow}
 use denote.Laws.{Is}
 use denote.Array as array
@@ -18,7 +19,7 @@ use Rattle.lists.specs.Parts.{words}
 use Rattle.lists.proofs.Functions.{on, both, each-all}
 use Rattle.model.specs.Rows.{zeroRow}
 use Rattle.model.specs.RecordWords.{rowOf, valueOf}
-use Rattle.model.specs.Messages.{smallRecord}
+use Rattle.model.specs.Messages.{smallRecord, writeNumber, fitGiven, fitMessage, writtenLength, encode, framed, fieldBytes}
 use Rattle.rows.specs.declared.Row.{Row}
 use Rattle.rows.specs.Meaning.{rowIn, matrixIn, noRow}
 use Rattle.rows.proofs.Row as rowType
@@ -26,7 +27,7 @@ use Rattle.records.specs.declared.Record.{Record}
 use Rattle.records.specs.Meaning.{recordIn}
 use Rattle.records.proofs.Record as recordType
 use Rattle.messages.specs.declared.Message.{Message}
-use Rattle.messages.specs.Meaning.{fieldsIn, numberWritten}
+use Rattle.messages.specs.Meaning.{fieldsIn, messageOf, numberWritten}
 use Rattle.messages.specs.RoundTrip.{smallFields, ReadBack}
 use Rattle.messages.proofs.Message as messageType
 use Rattle.messages.proofs.RoundTrip.{round-trip}
@@ -102,3 +103,58 @@ held-small n m vs p =
 pub of-structs : (m : Message) (vs : List Val) → Is messageType.the-row m vs → (n : ℕ) (out : List ℕ) → numberWritten n (fieldsIn m) out ≡ 0
     → ReadBack n (fieldsIn m) out
 of-structs m vs p n out h = round-trip .back n (fieldsIn m) out (held-small n m vs p) h
+
+-- A message that a program holds and the writer takes: an outcome, its other parts zero.
+
+-- k times a value that can be held
+module _ (F : Field) (x : F .Value) (v : Val) (h : Holds F x (v ∷ [])) where
+  repeated : (k : ℕ) → shadow (array.each (F .row .Denot) (F .row .own) (map (F .into) (replicate k x)) (replicate k v))
+  repeated zero = tt
+  repeated (suc k) = (h, repeated k)
+
+  length-repeated : (k : ℕ) → length (map (F .into) (replicate k x)) ≡ k
+  length-repeated zero = refl
+  length-repeated (suc k) = ap suc (length-repeated k)
+
+  array-of : (k : ℕ) → Holds (array-field F k) (replicate k x) (array.arrayVal (replicate k v) ∷ [])
+  array-of k = (replicate k v, ((refl, length-repeated k), repeated k))
+
+number-of : (x : ℕ) → Small x → Holds u32-field x (vint w32 x ∷ [])
+number-of x h = (refl, h)
+
+zero-held : Holds u32-field 0 (vint w32 0 ∷ [])
+zero-held = number-of 0 (omega arith)
+
+row : Row
+row = record { counts = replicate 12 0 }
+
+row-held : (v : Val) × Holds rowType.the-field row (v ∷ [])
+unfolding row
+row-held = (_, (_, (refl, (array-of u32-field 0 (vint w32 0) zero-held 12, tt))))
+
+part : Record
+part = record { member = 0; slot = 0; operation = 0; count = 0; value = replicate 8 0; matrix = replicate 12 row }
+
+part-held : (v : Val) × Holds recordType.the-field part (v ∷ [])
+unfolding part
+part-held =
+    let z = zero-held in
+    let value = array-of u32-field 0 (vint w32 0) z 8 in
+    let matrix = array-of rowType.the-field row (row-held .0) (row-held .1) 12 in
+    (_, (_, (refl, (z, (z, (z, (z, (value, (matrix, tt)))))))))
+
+pub an-outcome : Message
+an-outcome = record { number = 0; kind = 4; member = 0; slot = 0; operation = 0; count = 0; outcome = 1; newest = part; stored = part }
+
+pub an-outcome-held : (vs : List Val) × Is messageType.the-row an-outcome vs
+unfolding an-outcome
+an-outcome-held =
+    let z = zero-held in
+    let r = part-held .1 in
+    let kind = number-of 4 (omega arith) in
+    let result = number-of 1 (omega arith) in
+    (_, (_, (refl, (z, (kind, (z, (z, (z, (z, (result, (r, (r, tt))))))))))))
+
+pub an-outcome-taken : numberWritten 1 (fieldsIn an-outcome) (0 ∷ 0 ∷ 0 ∷ 0 ∷ 0 ∷ []) ≡ 0
+unfolding an-outcome fieldsIn messageOf writeNumber inside fitGiven fitMessage writtenLength encode framed fieldBytes
+an-outcome-taken = refl
