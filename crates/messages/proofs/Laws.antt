@@ -215,7 +215,7 @@ reply-written n a b l t u v p q e =
 
 -- The message that the writer is handed, by its kind.
 
-by-kind : {B : Type 0} (k : ℕ) → (k ≡ 1 → B) → (k ≡ 2 → B) → (k ≡ 3 → B) → (k ≡ 4 → B)
+pub by-kind : {B : Type 0} (k : ℕ) → (k ≡ 1 → B) → (k ≡ 2 → B) → (k ≡ 3 → B) → (k ≡ 4 → B)
     → ((k ≡ 1 → ⊥) → (k ≡ 2 → ⊥) → (k ≡ 3 → ⊥) → (k ≡ 4 → ⊥) → B) → B
 by-kind k a b c d other =
     on (eqb k 1) (λ p. a (eqb-true k 1 p)) (λ p.

@@ -1,1 +1,4 @@
 pub mod Laws
+pub mod WrittenBytes
+pub mod RoundTrip
+pub mod Held

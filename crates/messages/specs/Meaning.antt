@@ -1,10 +1,12 @@
 -- What a message held by value stands for: the struct's fields but its number, which the reader sets and the writer does not look at.
 use Prim.Native.Nat.{ℕ}
 use mathlib.Core.Bool.{cond}
+use mathlib.Core.List.{List}
 use mathlib.Core.Option.{Option, none, some}
 use lib.Dec.{eqb}
+use lib.ListN.{length}
 use Rattle.model.specs.Records.{Rec, zeroRecord}
-use Rattle.model.specs.Messages.{Message, submit, reply, commit, outcome}
+use Rattle.model.specs.Messages.{Message, submit, reply, commit, outcome, decode, writtenLength, writeNumber, writable, writtenTo}
 use Rattle.records.specs.Meaning.{recordIn}
 use Rattle.messages.specs.declared.Message.{Message as MessageStruct}
 
@@ -62,15 +64,15 @@ fieldsOf (some (reply a b)) = record {
   newest = a;
   stored = b;
 }
-fieldsOf (some (commit a)) = record {
+fieldsOf (some (commit r)) = record {
   kind = 3;
   member = 0;
   slot = 0;
   operation = 0;
   count = 0;
   result = 0;
-  newest = a;
-  stored = zeroRecord;
+  newest = r;
+  stored = zeroRecord;  -- a commit has one record
 }
 fieldsOf (some (outcome o)) = record {
   kind = 4;
@@ -91,3 +93,17 @@ messageOf f =
     (cond (eqb (f .kind) 3) (some (commit (f .newest)))
     (cond (eqb (f .kind) 4) (some (outcome (f .result)))
     none)))
+
+-- What the calls answer on a board of n. `read` of the bytes l: `readNumber n l`, and these fields.
+abbrev pub fieldsRead : ℕ → List ℕ → Fields
+fieldsRead n l = fieldsOf (decode n l)
+
+-- `write` of the fields f to the output `out`: its number, its length, and the output after it.
+abbrev pub numberWritten : ℕ → Fields → List ℕ → ℕ
+numberWritten n f out = writeNumber n (messageOf f) (length out)
+
+abbrev pub lengthWritten : ℕ → Fields → List ℕ → ℕ
+lengthWritten n f out = writtenLength n (writable n (messageOf f) (length out))
+
+abbrev pub outputAfter : ℕ → Fields → List ℕ → List ℕ
+outputAfter n f out = writtenTo n (writable n (messageOf f) (length out)) out

@@ -1,9 +1,8 @@
 // Messages as bytes: the reader, the writer, and the check that a C gateway calls.
 ghost use mathlib.Core.Path.{_≡_};
 ghost use mathlib.Core.Option.{none};
-ghost use lib.ListN.{length};
-ghost use Rattle.model.specs.Messages.{readNumber, decode, writeNumber, writable, writtenLength, writtenTo};
-ghost use Rattle.messages.specs.Meaning.{fieldsIn, fieldsOf, messageOf};
+ghost use Rattle.model.specs.Messages.{readNumber};
+ghost use Rattle.messages.specs.Meaning.{fieldsIn, fieldsOf, fieldsRead, numberWritten, lengthWritten, outputAfter};
 use crate::numbers::length_of;
 use crate::numbers::reader_number;
 use crate::numbers::writer_number;
@@ -60,7 +59,7 @@ pub struct Written {
 
 // The reader: the message in these bytes on a board of n, or the number that refuses it.
 pub fn read(bytes: &[u8], n: u32) -> Message
-    ensures { λ r. ⌜ (r .number ≡ readNumber n (now (bytes .entry))) × (fieldsIn r ≡ fieldsOf (decode n (now (bytes .entry)))) ⌝ }
+    ensures { λ r. ⌜ (r .number ≡ readNumber n (now (bytes .entry))) × (fieldsIn r ≡ fieldsRead n (now (bytes .entry))) ⌝ }
 {
     let number = reader_number(bytes, n);
     if number != 0 {
@@ -71,9 +70,9 @@ pub fn read(bytes: &[u8], n: u32) -> Message
 
 // The writer: the message's bytes to the front of the output, the others left as they were; nothing where a number refuses it.
 pub fn write(message: Message, n: u32, out: &mut [u8]) -> Written
-    ensures { λ r. ⌜ r .number ≡ writeNumber n (messageOf (fieldsIn message)) (length (now (out .entry))) ⌝ }
-    ensures { λ r. ⌜ r .length ≡ writtenLength n (writable n (messageOf (fieldsIn message)) (length (now (out .entry)))) ⌝ }
-    ensures { λ _. ⌜ now (out .exit) ≡ writtenTo n (writable n (messageOf (fieldsIn message)) (length (now (out .entry)))) (now (out .entry)) ⌝ }
+    ensures { λ r. ⌜ r .number ≡ numberWritten n (fieldsIn message) (now (out .entry)) ⌝ }
+    ensures { λ r. ⌜ r .length ≡ lengthWritten n (fieldsIn message) (now (out .entry)) ⌝ }
+    ensures { λ _. ⌜ now (out .exit) ≡ outputAfter n (fieldsIn message) (now (out .entry)) ⌝ }
 {
     let number = writer_number(message, n, out.len());
     if number != 0 {
