@@ -1,9 +1,9 @@
-// The reader and the writer as calls on slices, for bench/: a message by value does not cross to another language.
+// The calls that bench/ times: one that reads, and one that writes the same message again and again.
 ghost use mathlib.Core.Path.{_≡_};
 ghost use lib.ListN.{length};
 ghost use Rattle.model.specs.Messages.{decode, writeNumber, writable, writtenTo};
 ghost use Rattle.messages.specs.Meaning.{fieldsOf, messageOf};
-ghost use Rattle.bench_messages.specs.Counts.{bothCounts};
+ghost use Rattle.test_calls.specs.Counts.{bothCounts};
 use messages::read;
 use messages::write;
 

@@ -9,8 +9,8 @@ use lib.ListN.{length, drop}
 use lib.Seq.{drop-at}
 use Rattle.model.specs.Messages.{Message, encode, writeNumber, writable, writtenTo}
 use Rattle.messages.specs.Meaning.{fieldsIn, messageOf}
-use Rattle.bench_messages.proofs.concur_bench_write.Statement.{statement}
-use Rattle.bench_messages.proofs.concur_bench_write.Tie as tie
+use Rattle.test_calls.proofs.timed.concur_bench_write.Statement.{statement}
+use Rattle.test_calls.proofs.timed.concur_bench_write.Tie as tie
 
 -- written over itself
 twice : (n : ℕ) (m : Option Message) (l : List ℕ) → writtenTo n m (writtenTo n m l) ≡ writtenTo n m l
