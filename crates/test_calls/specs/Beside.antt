@@ -1,6 +1,6 @@
--- Slices that stand beside the block, the entries, the bytes or the output: a value, records, fields, a place for what is answered. One that
--- has not the words that are due is refused before anything else: the call answers 2, and all that was lent stays as it was. Document 01:
--- "2 wrong length"; "Each leaves all that was lent as before and returns only its number".
+-- Slices that stand beside the block, the entries, the bytes or the output: a value, records, fields, a place for what is answered. One
+-- that has not the words that are due is refused before anything else: the call answers 2, and all that was lent stays as it was.
+-- Document 01: "2 wrong length"; "Each leaves all that was lent as before and returns only its number".
 use Prim.Native.Nat.{ℕ}
 use mathlib.Core.Bool.{cond}
 use mathlib.Core.List.{List}

@@ -1,5 +1,5 @@
--- How records and messages are handed over in words. A record goes over as the working copy is, "a row holds 12 counts, the unused ones zero":
--- member, slot, type, count, the value's 8 words and all twelve rows of 12 counts, whatever n is.
+-- How records and messages are handed over in words. A record goes over whole, as a working copy is: "a row holds 12 counts, the unused
+-- ones zero". It is member, slot, type, count, the value's 8 words and all twelve rows of 12 counts, whatever n is.
 use Prim.Native.Nat.{ℕ}
 use mathlib.Core.Bool.{cond}
 use mathlib.Core.List.{List, [], _∷_, _++_}

@@ -59,10 +59,12 @@ pub extern "C" fn concur_call_member_reply(
 ) -> u32
     ensures { λ r. ⌜ r
         ≡ beside (now (records .entry)) pairDue 2
-        (replyNumber concur n member (now (block .entry)) (recordGiven n (now (records .entry)) 0) (recordGiven n (now (records .entry)) 156) seals) ⌝ }
+        (replyNumber concur n member (now (block .entry))
+        (recordGiven n (now (records .entry)) 0) (recordGiven n (now (records .entry)) recordDue) seals) ⌝ }
     ensures { λ _. ⌜ now (block .exit)
         ≡ beside (now (records .entry)) pairDue (now (block .entry))
-        (replyWords concur n member (now (block .entry)) (recordGiven n (now (records .entry)) 0) (recordGiven n (now (records .entry)) 156) seals) ⌝ }
+        (replyWords concur n member (now (block .entry))
+        (recordGiven n (now (records .entry)) 0) (recordGiven n (now (records .entry)) recordDue) seals) ⌝ }
 {
     if records.len() != PAIR_WORDS {
         return 2;

@@ -21,7 +21,9 @@ pub extern "C" fn concur_bench_read(bytes: &[u8], n: u32) -> u32
 #[no_mangle]
 pub extern "C" fn concur_bench_write(bytes: &[u8], n: u32, out: &mut [u8], more: u32) -> u32
     ensures { λ r. ⌜ r ≡ writeNumber n (messageOf (fieldsOf (decode n (now (bytes .entry))))) (length (now (out .entry))) ⌝ }
-    ensures { λ _. ⌜ now (out .exit) ≡ writtenTo n (writable n (messageOf (fieldsOf (decode n (now (bytes .entry))))) (length (now (out .entry)))) (now (out .entry)) ⌝ }
+    ensures { λ _. ⌜ now (out .exit)
+        ≡ writtenTo n (writable n (messageOf (fieldsOf (decode n (now (bytes .entry))))) (length (now (out .entry))))
+        (now (out .entry)) ⌝ }
 {
     let message = read(bytes, n);
     let written = write(message, n, out);

@@ -1,4 +1,4 @@
--- `concur_call_member_outcome` meets its contract: the length of what is returned is judged, then the half is called and its value handed out.
+-- `concur_call_member_outcome` meets its contract: one length is judged, then the half is called and what it returns handed out.
 use borrow.Author.Needs.{needs}
 use mathlib.Core.Path.{_≡_, _∙_}
 use Rattle.board.proofs.Beside.{handed}

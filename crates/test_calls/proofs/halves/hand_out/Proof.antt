@@ -30,7 +30,8 @@ returns : tie.Need-returns
 returns c =
     let f = flagged (stored c) in
     let a = start f .args in
-    handed-words (a .returned .now) (stored c .store-value .last .0) (a .value) (f .flag .result) (start f .pre) (same-length c) (stored c .store-value .ensures)
+    handed-words (a .returned .now) (stored c .store-value .last .0) (a .value) (f .flag .result)
+    (start f .pre) (same-length c) (stored c .store-value .ensures)
     ∙ ap (λ k. k ∷ listed valueSize (valueOf (words (a .value)))) (f .flag .ensures)
 
 pub hand-out-spec : {M : Type 1} → statement M

@@ -1,4 +1,4 @@
--- `concur_bench_read` meets its contract. Assumes nothing.
+-- `concur_bench_read` meets its contract: the sum is that of the counts which the reader read.
 use borrow.Author.Needs.{needs}
 use mathlib.Core.Path.{ap, _∙_}
 use Rattle.records.specs.Meaning.{recordIn}

@@ -1,4 +1,4 @@
--- `concur_bench_write` meets its contract: a message written over itself changes nothing. Assumes nothing.
+-- `concur_bench_write` meets its contract: a message written over itself changes nothing.
 use borrow.Author.Needs.{needs}
 use Prim.Native.Nat.{ℕ, _-_}
 use mathlib.Core.Path.{_≡_, refl, sym, ap, _∙_}
@@ -35,41 +35,41 @@ Inv-loop bytes n out₀ more message written i₀ out i = out ≡ out₀
 abbrev μ-loop : tie.MeasureT-loop
 μ-loop bytes n out₀ more message written i₀ out i = more - i
 
-read-requires : tie.Need-read-requires Inv-loop μ-loop
-read-requires c κs = search needs
+-- Places: a round's end, the loop's head, and what came before the loop.
 
-write-requires : tie.Need-write-requires Inv-loop μ-loop
-write-requires c κs = search needs
+abbrev head : tie.After-slice-known3 Inv-loop μ-loop → tie.At-loop Inv-loop μ-loop
+head c = c .before .before .before .before .before
 
-loop-holds : tie.Need-loop-holds Inv-loop μ-loop
-loop-holds c = refl
+abbrev wrote : tie.At-loop Inv-loop μ-loop → tie.After-write Inv-loop μ-loop
+wrote c = c .before .before .before
 
-write-requires-2 : tie.Need-write-requires-2 Inv-loop μ-loop
-write-requires-2 c κs = search needs
+abbrev was-read : tie.After-write Inv-loop μ-loop → tie.After-read Inv-loop μ-loop
+was-read c = c .before .before
 
-add-i : tie.Need-add-i Inv-loop μ-loop
-add-i c = search needs
-
-loop-less : tie.Need-loop-less Inv-loop μ-loop
-loop-less c = search needs
+abbrev start : tie.After-read Inv-loop μ-loop → tie.Start Inv-loop μ-loop
+start c = c .before .before .before
 
 loop-again : tie.Need-loop-again Inv-loop μ-loop
 loop-again c =
-    let a = c .before .before .before .before .before .before .before .before .before .before .before .before .before .args in
-    let r = c .before .before .before .before .before .before .before .before .before .before .read .result in
-    let w = c .before .before .before .before .before .before .before .before .write in
-    again (a .n) (messageOf (fieldsIn r)) (a .out .now) _ _ _ (w .kept .1 .1 .0) (w .ensures .1 .1) (c .before .before .before .before .before .loop .inv) (c .before .before .write2 .ensures .1 .1)
+    let w = wrote (head c) in
+    let r = was-read w in
+    let a = start r .args in
+    again (a .n) (messageOf (fieldsIn (r .read .result))) (a .out .now) _ _ _
+    (w .write .kept .1 .1 .0) (w .write .ensures .1 .1) (head c .loop .inv) (c .before .before .write2 .ensures .1 .1)
 
 same-length : tie.Need-same-length Inv-loop μ-loop
-same-length c = ap length (c .before .loop .inv) ∙ c .before .before .before .before .write .kept .1 .1 .0
+same-length c = ap length (c .before .loop .inv) ∙ wrote (c .before) .write .kept .1 .1 .0
 
 returns : tie.Need-returns Inv-loop μ-loop
 returns c =
-    let a = c .before .before .before .before .before .before .before .before .before .args in
+    let w = wrote (c .before) in
+    let r = was-read w in
+    let a = start r .args in
     let s = a .out .now in
-    let f = c .before .before .before .before .before .before .read .ensures .1 in
-    let w = c .before .before .before .before .write .ensures in
-    (w .0 ∙ ap (λ f. writeNumber (a .n) (messageOf f) (length s)) f, c .before .loop .inv ∙ w .1 .1 ∙ ap (λ f. writtenTo (a .n) (writable (a .n) (messageOf f) (length s)) s) f)
+    let m = ap messageOf (r .read .ensures .1) in
+    let number = w .write .ensures .0 ∙ ap (λ m. writeNumber (a .n) m (length s)) m in
+    let bytes = w .write .ensures .1 .1 ∙ ap (λ m. writtenTo (a .n) (writable (a .n) m (length s)) s) m in
+    (number, c .before .loop .inv ∙ bytes)
 
 pub concur-bench-write-spec : {M : Type 1} → statement M
 concur-bench-write-spec =
@@ -77,12 +77,12 @@ concur-bench-write-spec =
     (tie.spec
     Inv-loop
     μ-loop
-    read-requires
-    write-requires
-    loop-holds
-    write-requires-2
-    add-i
-    loop-less
+    (λ c κs. search needs)
+    (λ c κs. search needs)
+    (λ c. refl)
+    (λ c κs. search needs)
+    (λ c. search needs)
+    (λ c. search needs)
     loop-again
     same-length
     returns)

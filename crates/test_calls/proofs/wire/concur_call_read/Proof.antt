@@ -22,7 +22,9 @@ returns-2 : tie.Need-returns-2
 returns-2 c =
     let told = taken (stored c) in
     let fits = told .before .if1 .left in
-    (calls _ _ fits _ _ (told .read .ensures .0), calls _ _ fits _ _ (stored c .store-fields .ensures ∙ ap fieldWords (told .read .ensures .1)))
+    let number = told .read .ensures .0 in
+    let fields = stored c .store-fields .ensures ∙ ap fieldWords (told .read .ensures .1) in
+    (calls _ _ fits _ _ number, calls _ _ fits _ _ fields)
 
 pub concur-call-read-spec : {M : Type 1} → statement M
 concur-call-read-spec =

@@ -41,26 +41,24 @@ cast-written : tie.Need-cast-written
 cast-written c =
     let w = wrote c in
     let a = start (fits (loaded w)) .args in
-    omega (arith, w .write .ensures .1 .0, written-small (a .n) (messageOf (fieldsIn (loaded w .load-fields .result))) (length (a .out .now)))
+    let m = messageOf (fieldsIn (loaded w .load-fields .result)) in
+    omega (arith, w .write .ensures .1 .0, written-small (a .n) m (length (a .out .now)))
 
 returns-3 : tie.Need-returns-3
 unfolding messageGiven
 returns-3 c =
     let w = wrote c in
-    let e = loaded w .load-fields .ensures in
     let both = fits (loaded w) in
     let p = both .before .if1 .left in
     let q = both .if2 .left in
     let a = start both .args in
-    let out = a .out .now in (
-      calls-both _ _ _ _ p q _ _ (w .write .ensures .0 ∙ ap (λ f. writeNumber (a .n) (messageOf f) (length out)) e),
-      (
-        calls-both _ _ _ _ p q _ _ (w .write .ensures .1 .1 ∙ ap (λ f. writtenTo (a .n) (writable (a .n) (messageOf f) (length out)) out) e),
-        calls-both _ _ _ _ p q _ _
-            (one-stored (a .written .now) (w .write .result .length) q
-            ∙ ap (λ k. k ∷ []) (w .write .ensures .1 .0 ∙ ap (λ f. writtenLength (a .n) (writable (a .n) (messageOf f) (length out))) e)),
-      ),
-    )
+    let out = a .out .now in
+    let m = ap messageOf (loaded w .load-fields .ensures) in
+    let number = w .write .ensures .0 ∙ ap (λ m. writeNumber (a .n) m (length out)) m in
+    let long = w .write .ensures .1 .0 ∙ ap (λ m. writtenLength (a .n) (writable (a .n) m (length out))) m in
+    let bytes = w .write .ensures .1 .1 ∙ ap (λ m. writtenTo (a .n) (writable (a .n) m (length out)) out) m in
+    let stored = one-stored (a .written .now) (w .write .result .length) q ∙ ap (λ k. k ∷ []) long in
+    (calls-both _ _ _ _ p q _ _ number, (calls-both _ _ _ _ p q _ _ bytes, calls-both _ _ _ _ p q _ _ stored))
 
 pub concur-call-write-spec : {M : Type 1} → statement M
 concur-call-write-spec =
