@@ -40,6 +40,6 @@ program() {
     done
 }
 
-bench messages bench_messages messages
+bench messages test_calls messages
 bench board board
 program

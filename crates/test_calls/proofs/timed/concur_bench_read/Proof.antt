@@ -1,11 +1,11 @@
--- `concur_bench_read` meets its contract. Assumes nothing.
+-- `concur_bench_read` meets its contract: the sum is that of the counts which the reader read.
 use borrow.Author.Needs.{needs}
 use mathlib.Core.Path.{ap, _∙_}
 use Rattle.records.specs.Meaning.{recordIn}
 use Rattle.messages.specs.Meaning.{fieldsIn}
-use Rattle.bench_messages.specs.Counts.{bothCounts}
-use Rattle.bench_messages.proofs.concur_bench_read.Statement.{statement}
-use Rattle.bench_messages.proofs.concur_bench_read.Tie as tie
+use Rattle.test_calls.specs.Counts.{bothCounts}
+use Rattle.test_calls.proofs.timed.concur_bench_read.Statement.{statement}
+use Rattle.test_calls.proofs.timed.concur_bench_read.Tie as tie
 
 read-requires : tie.Need-read-requires
 read-requires c κs = search needs

@@ -1,9 +1,9 @@
-// The reader and the writer as calls on slices, for bench/: a message by value does not cross to another language.
+// The calls that bench/ times: one that reads, and one that writes the same message again and again.
 ghost use mathlib.Core.Path.{_≡_};
 ghost use lib.ListN.{length};
 ghost use Rattle.model.specs.Messages.{decode, writeNumber, writable, writtenTo};
 ghost use Rattle.messages.specs.Meaning.{fieldsOf, messageOf};
-ghost use Rattle.bench_messages.specs.Counts.{bothCounts};
+ghost use Rattle.test_calls.specs.Counts.{bothCounts};
 use messages::read;
 use messages::write;
 
@@ -21,7 +21,9 @@ pub extern "C" fn concur_bench_read(bytes: &[u8], n: u32) -> u32
 #[no_mangle]
 pub extern "C" fn concur_bench_write(bytes: &[u8], n: u32, out: &mut [u8], more: u32) -> u32
     ensures { λ r. ⌜ r ≡ writeNumber n (messageOf (fieldsOf (decode n (now (bytes .entry))))) (length (now (out .entry))) ⌝ }
-    ensures { λ _. ⌜ now (out .exit) ≡ writtenTo n (writable n (messageOf (fieldsOf (decode n (now (bytes .entry))))) (length (now (out .entry)))) (now (out .entry)) ⌝ }
+    ensures { λ _. ⌜ now (out .exit)
+        ≡ writtenTo n (writable n (messageOf (fieldsOf (decode n (now (bytes .entry))))) (length (now (out .entry))))
+        (now (out .entry)) ⌝ }
 {
     let message = read(bytes, n);
     let written = write(message, n, out);

@@ -1,0 +1,127 @@
+-- What is said once of slices beside a call, and of records and fields laid one after the other.
+use Prim.Native.Nat.{ℕ, _+_, _<_, _≤_}
+use mathlib.Core.Path.{_≡_, refl, sym, ap, _∙_}
+use mathlib.Core.Bool.{Bool, true, false, cond}
+use mathlib.Core.List.{List, [], _∷_, _++_, append-assoc, append-nil}
+use mathlib.Core.Option.{Option, none, some}
+use native.Mathlib.Omega.{arith}
+use borrow.Author.Tests.{eq-eqb, ne-eqb, eqb-true}
+use lib.Dec.{eqb}
+use lib.ListN.{length, take, drop, set, length-append, length-drop, length-set, drop-of-length-le}
+use lib.Seq.{take-at, drop-at, length-take-le, sets-eq}
+use Rattle.lists.specs.Parts.{replaced}
+use Rattle.lists.proofs.Functions.{on, inside-high}
+use Rattle.model.specs.Kinds.{concur}
+use Rattle.model.specs.Records.{Rec, zeroRecord, recordWithin}
+use Rattle.model.specs.RecordWords.{recordSize, recordWords}
+use Rattle.model.specs.Halves.{hostNumber, submitNewest, submitStored}
+use Rattle.model.specs.Messages.{Message as Wire, kindOf, writeNumber, writable, writtenLength}
+use Rattle.laws.proofs.Records.{length-recordWords}
+use Rattle.laws.proofs.Messages.{length-encode, lengthOf-most, writable-of}
+use Rattle.records.specs.Meaning.{recordIn}
+use Rattle.messages.specs.Meaning.{fieldsIn}
+use Rattle.messages.specs.declared.Message.{Message}
+use Rattle.test_calls.specs.Beside.{beside, besideTwo}
+use Rattle.test_calls.specs.Handed.{recordDue, pairDue, fieldsDue, recordFrom, recordGiven, pairWords, fieldWords, repliedWords}
+
+-- A slice beside a call: of the wrong length, and of the right one.
+module _ {A : Type 0} (l : List ℕ) (due : ℕ) where
+  pub refuses : (length l ≡ due → ⊥) → (x y : A) → x ≡ beside l due x y
+  unfolding beside
+  refuses ne x y = rw (ne-eqb (length l) due ne)
+
+  pub calls : length l ≡ due → (x y : A) {z : A} → z ≡ y → z ≡ beside l due x y
+  unfolding beside
+  calls e x y p = rw (eq-eqb (length l) due e) p
+
+-- Two of them.
+module _ {A : Type 0} (l : List ℕ) (due : ℕ) (m : List ℕ) (dueToo : ℕ) where
+  pub refuses-first : (length l ≡ due → ⊥) → (x y : A) → x ≡ besideTwo l due m dueToo x y
+  unfolding besideTwo
+  refuses-first ne x y = refuses l due ne x (beside m dueToo x y)
+
+  pub refuses-second : length l ≡ due → (length m ≡ dueToo → ⊥) → (x y : A) → x ≡ besideTwo l due m dueToo x y
+  unfolding besideTwo
+  refuses-second e ne x y = calls l due e x (beside m dueToo x y) (refuses m dueToo ne x y)
+
+  pub calls-both : length l ≡ due → length m ≡ dueToo → (x y : A) {z : A} → z ≡ y → z ≡ besideTwo l due m dueToo x y
+  unfolding besideTwo
+  calls-both e f x y p = calls l due e x (beside m dueToo x y) (calls m dueToo f x y p)
+
+-- Two lists written one after the other to the end of a list.
+pub both-replaced : (l p q : List ℕ) (a b : ℕ) → a + length p ≡ b → length l ≡ b + length q
+    → replaced (replaced l a p) b q ≡ take a l ++ (p ++ q)
+both-replaced l p q a b e long =
+    let first : length (take a l) ≡ a = length-take-le a l (omega arith) in
+    let head : length (take a l ++ p) ≡ b = length-append (take a l) p ∙ ap (λ k. k + length p) first ∙ e in
+    let rest = drop (length p) (drop a l) in
+    let short : length rest ≤ length q = simp length-drop (omega arith) in
+    ap (λ m. take b m ++ (q ++ drop (length q) (drop b m))) (sym (append-assoc (take a l) p rest))
+    ∙ ap (λ m. m ++ (q ++ drop (length q) (drop b ((take a l ++ p) ++ rest)))) (take-at (take a l ++ p) rest b head)
+    ∙ ap (λ m. (take a l ++ p) ++ (q ++ drop (length q) m)) (drop-at (take a l ++ p) rest b head)
+    ∙ ap (λ m. (take a l ++ p) ++ (q ++ m)) (drop-of-length-le rest short)
+    ∙ ap (λ m. (take a l ++ p) ++ m) (append-nil q)
+    ∙ append-assoc (take a l) p q
+
+-- The first six words of a list, stored one by one.
+pub six-stored : (l : List ℕ) (a b c d e f : ℕ) → 6 ≤ length l
+    → take 6 (set (set (set (set (set (set l 0 a) 1 b) 2 c) 3 d) 4 e) 5 f) ≡ a ∷ b ∷ c ∷ d ∷ e ∷ f ∷ []
+six-stored l a b c d e f h =
+    ap (take 6) (sets-eq (a ∷ b ∷ c ∷ d ∷ e ∷ f ∷ []) l 0 h)
+
+-- The only word of a list, stored.
+pub one-stored : (l : List ℕ) (x : ℕ) → length l ≡ 1 → set l 0 x ≡ x ∷ []
+one-stored l x e = sets-eq (x ∷ []) l 0 (omega arith) ∙ ap (λ r. x ∷ r) (drop-of-length-le l {i = 1} (omega arith))
+
+-- Records as a board of twelve has them.
+pub record-long : (r : Rec) → length (recordWords 12 r) ≡ recordDue
+unfolding recordSize
+record-long r = length-recordWords 12 r
+
+pub pair-stored : (l : List ℕ) (at : ℕ) (newest stored : Rec) → length l ≡ at + pairDue
+    → replaced (replaced l at (recordWords 12 newest)) (at + recordDue) (recordWords 12 stored) ≡ take at l ++ pairWords newest stored
+unfolding pairWords
+pair-stored l at newest stored long =
+    both-replaced l (recordWords 12 newest) (recordWords 12 stored) at (at + recordDue)
+    (ap (λ k. at + k) (record-long newest)) (omega (arith, record-long stored))
+
+-- A message's fields: its six numbers stored one by one, then its records.
+pub fields-stored : (l : List ℕ) (m : Message) → length l ≡ fieldsDue
+    → take 6 (set (set (set (set (set (set l 0 (m .kind)) 1 (m .member)) 2 (m .slot)) 3 (m .operation)) 4 (m .count)) 5 (m .outcome))
+    ++ pairWords (recordIn (m .newest)) (recordIn (m .stored))
+    ≡ fieldWords (fieldsIn m)
+unfolding fieldWords fieldsIn
+fields-stored l m long =
+    ap (λ h. h ++ pairWords (recordIn (m .newest)) (recordIn (m .stored)))
+    (six-stored l (m .kind) (m .member) (m .slot) (m .operation) (m .count) (m .outcome) (omega arith))
+
+-- A record as a half takes it.
+pub given : (n : ℕ) (l : List ℕ) (at : ℕ) {r : Rec} → r ≡ recordFrom l at → recordWithin n r ≡ recordGiven n l at
+unfolding recordGiven
+given n l at e = ap (recordWithin n) e
+
+-- What a submit is replied, record by record, and as a pair.
+pairs : (b : Bool) (r s z : Rec) → pairWords (cond b r z) (cond b s z) ≡ cond b (pairWords r s) (pairWords z z)
+pairs true r s z = refl
+pairs false r s z = refl
+
+pub replied : (n : ℕ) (l : List ℕ) (i r t : ℕ) {number : ℕ} {newest stored : Rec} → number ≡ hostNumber concur n l i r t
+    → newest ≡ cond (eqb number 0) (submitNewest n l r) zeroRecord → stored ≡ cond (eqb number 0) (submitStored n l r) zeroRecord
+    → pairWords newest stored ≡ repliedWords n l i r t
+unfolding repliedWords
+replied n l i r t {number} e p q =
+    (λ t. pairWords (p t) (q t))
+    ∙ pairs (eqb number 0) (submitNewest n l r) (submitStored n l r) zeroRecord
+    ∙ ap (λ k. cond (eqb k 0) (pairWords (submitNewest n l r) (submitStored n l r)) (pairWords zeroRecord zeroRecord)) e
+
+-- What the writer writes is few bytes.
+encoded-small : (n : ℕ) (m : Option Wire) → n ≤ 12 → writtenLength n m ≤ 1235
+unfolding writtenLength
+encoded-small n none h = omega arith
+encoded-small n (some m) h = omega (arith, length-encode n m, lengthOf-most (kindOf m) n h)
+
+pub written-small : (n : ℕ) (m : Option Wire) (room : ℕ) → writtenLength n (writable n m room) ≤ 1235
+unfolding writable writtenLength
+written-small n m room = on (eqb (writeNumber n m room) 0)
+    (λ p. rw p (encoded-small n m (inside-high 12 n (writable-of n m room (eqb-true (writeNumber n m room) 0 p) .0))))
+    (λ p. rw p (omega arith))

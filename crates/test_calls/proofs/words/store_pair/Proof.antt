@@ -1,0 +1,49 @@
+-- `store_pair` meets its contract: two records stored one after the other, to the slice's end.
+use mathlib.Core.Path.{ap, _∙_}
+use borrow.Author.Needs.{needs}
+use native.Mathlib.Omega.{arith}
+use Prim.Native.Nat.{_+_}
+use Rattle.lists.specs.Parts.{replaced}
+use Rattle.model.specs.RecordWords.{recordSize, recordWords}
+use Rattle.records.specs.Meaning.{recordIn}
+use Rattle.test_calls.specs.Handed.{recordDue}
+use Rattle.test_calls.proofs.Laws.{pair-stored}
+use Rattle.test_calls.proofs.words.store_pair.Statement.{statement}
+use Rattle.test_calls.proofs.words.store_pair.Tie as tie
+
+-- where the first record, and where both, are stored
+abbrev first : tie.After-store-record-arg2 → tie.After-store-record
+first c = c .before .before .before
+
+abbrev both : tie.After-slice-known3 → tie.After-store-record2
+both c = c .before .before
+
+abbrev start : tie.After-store-record → tie.Start
+start c = c .before .before .before
+
+store-record-requires : tie.Need-store-record-requires
+unfolding recordSize
+store-record-requires c κs = (omega arith, omega arith)
+
+add-store-record : tie.Need-add-store-record
+add-store-record c = search needs
+
+store-record-requires-2 : tie.Need-store-record-requires-2
+unfolding recordSize
+store-record-requires-2 c κs = (omega arith, omega (arith, first c .store-record .kept .0))
+
+same-length : tie.Need-same-length
+same-length c = both c .store-record2 .kept .0 ∙ first (both c .before) .store-record .kept .0
+
+returns : tie.Need-returns
+returns c =
+    let one = first (both c .before) in
+    let a = start one .args in
+    both c .store-record2 .ensures
+    ∙ ap (λ l. replaced l (a .at + recordDue) (recordWords 12 (recordIn (a .stored)))) (one .store-record .ensures)
+    ∙ pair-stored (a .t .now) (a .at) (recordIn (a .newest)) (recordIn (a .stored)) (start one .pre .1)
+
+pub store-pair-spec : {M : Type 1} → statement M
+store-pair-spec =
+    tie.close
+    (tie.spec store-record-requires add-store-record store-record-requires-2 same-length returns)

@@ -1,0 +1,72 @@
+// Records and messages in the words of a slice, all twelve rows of a record whatever n is.
+ghost use mathlib.Core.Path.{_≡_};
+ghost use mathlib.Core.List.{_++_};
+ghost use Prim.Native.Nat.{_+_, _≤_};
+ghost use lib.ListN.{length, take};
+ghost use Rattle.messages.specs.Meaning.{fieldsIn};
+ghost use Rattle.records.specs.Meaning.{recordIn};
+ghost use Rattle.test_calls.specs.Handed.{recordFrom, pairDue, pairWords, fieldsDue, fieldsFrom, fieldWords};
+use messages::Message;
+use records::Record;
+use records::steps::load_record;
+use records::steps::store_record;
+
+// How many words a record has, two records, and the fields of a message.
+pub const RECORD_WORDS: usize = 156;
+
+pub const PAIR_WORDS: usize = 312;
+
+pub const FIELDS_WORDS: usize = 318;
+
+// Where the two records of a message begin.
+const NEWEST_AT: usize = 6;
+
+const STORED_AT: usize = 162;
+
+pub fn load_at(t: &[u32], at: usize) -> Record
+    requires { ⌜ (at ≤ 162) × (at + 156 ≤ length (now t)) ⌝ }
+    ensures { λ r. ⌜ recordIn r ≡ recordFrom (now (t .entry)) at ⌝ }
+{
+    load_record(t, at, 12)
+}
+
+// The newest and the stored record to the words from `at` on, which are the last ones.
+pub fn store_pair(t: &mut [u32], at: usize, newest: Record, stored: Record)
+    requires { ⌜ (at ≤ 6) × (length (now t) ≡ at + pairDue) ⌝ }
+    ensures { λ _. ⌜ now (t .exit) ≡ take at (now (t .entry)) ++ pairWords (recordIn newest) (recordIn stored) ⌝ }
+{
+    store_record(t, at, 12, newest);
+    store_record(t, at + RECORD_WORDS, 12, stored);
+}
+
+pub fn load_fields(t: &[u32]) -> Message
+    requires { ⌜ length (now t) ≡ fieldsDue ⌝ }
+    ensures { λ r. ⌜ fieldsIn r ≡ fieldsFrom (now (t .entry)) ⌝ }
+{
+    let newest = load_at(t, NEWEST_AT);
+    let stored = load_at(t, STORED_AT);
+    Message {
+        number: 0,
+        kind: t[0],
+        member: t[1],
+        slot: t[2],
+        operation: t[3],
+        count: t[4],
+        outcome: t[5],
+        newest,
+        stored,
+    }
+}
+
+pub fn store_fields(t: &mut [u32], message: Message)
+    requires { ⌜ length (now t) ≡ fieldsDue ⌝ }
+    ensures { λ _. ⌜ now (t .exit) ≡ fieldWords (fieldsIn message) ⌝ }
+{
+    t[0] = message.kind;
+    t[1] = message.member;
+    t[2] = message.slot;
+    t[3] = message.operation;
+    t[4] = message.count;
+    t[5] = message.outcome;
+    store_pair(t, NEWEST_AT, message.newest, message.stored);
+}
