@@ -3,23 +3,22 @@
 // Usage: capi SECONDS [SEED]
 #![allow(dead_code)]
 
+mod arguments;
 mod board;
 mod c_lib;
 mod c_sim;
+mod guarded;
 mod message_cases;
 mod messages;
 mod random;
 mod rng;
 
 use board::*;
+use guarded::{Guarded, GUARD, UNTOUCHED};
 use message_cases::{fixed_messages, random_messages};
 use random::*;
 use rng::Rng;
-use std::time::{Duration, Instant};
-
-const GUARD: u32 = 0xA5A5_A5A5; // must stay around everything lent
-const UNTOUCHED: u32 = 0x5C5C_5C5C; // what stands in `returned` before a call
-const MARGIN: usize = 40;
+use std::time::Instant;
 
 #[derive(Clone, Debug)]
 enum Call {
@@ -73,17 +72,11 @@ fn both(table: &mut Vec<u32>, call: &Call, tally: &mut Tally) -> u32 {
         Call::Deliver { returned_words, .. } => *returned_words,
         _ => 0,
     };
-    // The library's copy stands between guards.
-    let mut lent = vec![GUARD; MARGIN];
-    lent.extend_from_slice(table);
-    lent.extend_from_slice(&[GUARD; MARGIN]);
-    let end = MARGIN + table.len();
-    let mut out_lib = vec![GUARD; MARGIN];
-    out_lib.extend(std::iter::repeat(UNTOUCHED).take(returned_words));
-    out_lib.extend_from_slice(&[GUARD; MARGIN]);
+    let mut lent = Guarded::new(table, GUARD);
+    let mut out_lib = Guarded::new(&vec![UNTOUCHED; returned_words], GUARD);
     let mut out_sim = vec![UNTOUCHED; returned_words];
 
-    let by_lib = run_lib(&mut lent[MARGIN..end], call, &mut out_lib[MARGIN..MARGIN + returned_words]);
+    let by_lib = run_lib(lent.inside(), call, out_lib.inside());
     let by_sim = run_sim(table, call, &mut out_sim);
 
     let story = || {
@@ -94,15 +87,14 @@ fn both(table: &mut Vec<u32>, call: &Call, tally: &mut Tally) -> u32 {
         fail(&format!("{}: library answers {}, simulator {}", story(), by_lib, by_sim));
     }
     for i in 0..table.len() {
-        if lent[MARGIN + i] != table[i] {
-            fail(&format!("{}, answer {}: word {} was {}, library {}, simulator {}", story(), by_sim, i, before[i], lent[MARGIN + i], table[i]));
+        if lent.inside()[i] != table[i] {
+            fail(&format!("{}, answer {}: word {} was {}, library {}, simulator {}", story(), by_sim, i, before[i], lent.inside()[i], table[i]));
         }
     }
-    if out_lib[MARGIN..MARGIN + returned_words] != out_sim[..] {
-        fail(&format!("{}, answer {}: returned by library {:?}, simulator {:?}", story(), by_sim, &out_lib[MARGIN..MARGIN + returned_words], out_sim));
+    if out_lib.inside() != &out_sim[..] {
+        fail(&format!("{}, answer {}: returned by library {:?}, simulator {:?}", story(), by_sim, out_lib.inside(), out_sim));
     }
-    let guards = [&lent[..MARGIN], &lent[end..], &out_lib[..MARGIN], &out_lib[MARGIN + returned_words..]];
-    if guards.iter().any(|g| g.iter().any(|w| *w != GUARD)) {
+    if !lent.intact() || !out_lib.intact() {
         fail(&format!("{}: wrote outside what was lent", story()));
     }
     if by_sim != 0 && *table != before {
@@ -465,13 +457,7 @@ fn both_check(bytes: &[u8], n: u32, tally: &mut Tally) {
 }
 
 fn main() {
-    let args: Vec<String> = std::env::args().collect();
-    if args.len() < 2 {
-        println!("usage: capi SECONDS [SEED]");
-        std::process::exit(2);
-    }
-    let limit = Duration::from_secs_f64(args[1].parse().expect("seconds"));
-    let seed: u64 = if args.len() > 2 { args[2].parse().expect("seed") } else { 7 };
+    let (limit, seed) = arguments::seconds_and_seed("capi");
     let start = Instant::now();
     let mut tally = Tally::default();
 
