@@ -38,13 +38,13 @@ shared_library() { # source folder
     rustc -A warnings -O --edition 2021 --crate-type cdylib "$1/stub_library.rs" -o "$shared/libconcur.so" || exit 2
 }
 
-library() { # name, file, perl change, too if interleavings must notice as well
+library() { # name, file, perl change, "too" where interleavings is asked in any case
     spoil "$2" "$3"
     shared_library "$work/source"
     by=""
     "$shared/capi" 1 > "$work/log" 2>&1 || by="capi"
     if [ -z "$by" ] || [ "$4" = too ]; then
-        "$shared/interleavings" 0 >> "$work/log" 2>&1 || by="$by interleavings"
+        "$shared/interleavings" without-crashes >> "$work/log" 2>&1 || by="$by interleavings"
     fi
     verdict "$1" "$([ -n "$by" ] && echo 1)" "$by: $(grep -h DIFF "$work/log" | head -1 | cut -c1-110)"
 }
