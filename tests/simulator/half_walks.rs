@@ -66,7 +66,7 @@ impl Walk<'_> {
                 _ => {
                     let reach = if self.rng.once_in(2) { bytes.len() } else { 5 };
                     let place = self.rng.below(reach as u64) as usize;
-                    bytes[place] = self.rng.between(0, 4) as u8;
+                    bytes[place] = *self.rng.pick(&[0, 1, 2, 3, 4, 5, 13, 255]);
                 }
             }
         }
@@ -179,7 +179,7 @@ pub fn walk(seed: u64, both: &mut Both) {
     let style = Style {
         crash: *rng.pick(&[100, 1000, NEVER]),
         lie: if honest { NEVER } else { *rng.pick(&[20, 60]) },
-        damage: if honest { NEVER } else { *rng.pick(&[30, NEVER]) },
+        damage: if honest { NEVER } else { *rng.pick(&[12, 60, NEVER]) },
         slots: rng.between(1, n),
     };
     let late = rng.once_in(5); // the own counts are near their end

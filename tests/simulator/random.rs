@@ -114,7 +114,7 @@ pub fn near_reply(rng: &mut Rng, n: u32) -> NearReply {
     let slot = rng.between(1, n);
     let m = member as usize - 1;
     let r = slot as usize - 1;
-    let base = *rng.pick(&[0u32, 5, u32::MAX - 9]);
+    let base = *rng.pick(&[0u32, 5, 0xFFFC, 0x7FFF_FFFC, u32::MAX - 9]);
     let mut block = block_from_words(&vec![0; block_words(n)], n);
     block.slot = slot;
     block.op_type = type_for(member, slot);
