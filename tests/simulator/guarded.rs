@@ -1,6 +1,6 @@
 // A copy of what is lent to the library, between guards that must stay.
 
-const MARGIN: usize = 40;
+const MARGIN: usize = 41; // odd, so that bytes stand at no even place
 pub const GUARD: u32 = 0xA5A5_A5A5;
 pub const GUARD_BYTE: u8 = 0xA5;
 pub const UNTOUCHED: u32 = 0x5C5C_5C5C; // what stands in the places for results before a call

@@ -12,11 +12,6 @@ const BAD_N: [u32; 6] = [0, 13, 14, 255, 256, u32::MAX];
 /// Where the numbers stand that 15 may refuse, whether the kind uses them or not.
 const JUDGED: [usize; 11] = [0, 1, 2, 3, 5, NEWEST, NEWEST + 1, NEWEST + 2, STORED, STORED + 1, STORED + 2];
 
-/// Lengths of an output about that of the message.
-fn lengths_about(length: usize) -> [usize; 9] {
-    [0, 1, 4, length / 2, length - 2, length - 1, length, length + 1, length + 40]
-}
-
 pub fn fixed_reading(both: &mut Both) {
     fixed_messages(&mut |bytes, n| {
         both.read(bytes, n);
@@ -38,10 +33,7 @@ pub fn fixed_writing(both: &mut Both) {
             for other in 1..=12 {
                 both.write(&fields, other, LONGEST);
             }
-            for out_length in 0..length.min(70) + 6 {
-                both.write(&fields, n, out_length);
-            }
-            for out_length in lengths_about(length) {
+            for out_length in (0..length.min(70)).chain(length - 5..length + 6) {
                 both.write(&fields, n, out_length);
             }
             // One number changed, with outputs that would be 16.
@@ -51,14 +43,6 @@ pub fn fixed_writing(both: &mut Both) {
                     changed[place] = word;
                     both.write(&changed, n, LONGEST);
                     both.write(&changed, n, 4);
-                    both.write(&changed, n, length);
-                }
-            }
-            // One byte of one word at a time, for the order of the bytes.
-            for place in 4..FIELDS {
-                let mut changed = fields.clone();
-                changed[place] = if JUDGED.contains(&place) { fields[place] } else { 0x0102_0304u32.rotate_left(8 * rng.between(0, 3)) };
-                if place < 40 || rng.once_in(5) {
                     both.write(&changed, n, length);
                 }
             }
@@ -82,7 +66,7 @@ pub fn random_round(seed: u64, both: &mut Both) {
             fields[place] = if place % RECORD == NEWEST + 2 || place == 3 { any_type(&mut rng) } else { any_number(&mut rng, n) };
         }
         let asked = if rng.once_in(8) { any_number(&mut rng, n) } else { n };
-        let out_length = if rng.once_in(3) { *rng.pick(&lengths_about(length)) } else { LONGEST + 5 };
+        let out_length = if rng.once_in(3) { rng.below(2 * length as u64) as usize } else { LONGEST + 5 };
         let (answer, out, written) = both.write(&fields, asked, out_length);
         if answer == 0 {
             let (answer, again) = both.read(&out[..written], asked);
