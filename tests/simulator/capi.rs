@@ -3,22 +3,22 @@
 // Usage: capi SECONDS [SEED]
 #![allow(dead_code)]
 
+mod arguments;
 mod board;
 mod c_lib;
 mod c_sim;
+mod guarded;
+mod message_cases;
 mod messages;
 mod random;
 mod rng;
 
 use board::*;
-use messages::Message;
+use guarded::{Guarded, GUARD, UNTOUCHED};
+use message_cases::{fixed_messages, random_messages};
+use random::*;
 use rng::Rng;
-use std::time::{Duration, Instant};
-use random::random_record;
-
-const GUARD: u32 = 0xA5A5_A5A5; // must stay around everything lent
-const UNTOUCHED: u32 = 0x5C5C_5C5C; // what stands in `returned` before a call
-const MARGIN: usize = 40;
+use std::time::Instant;
 
 #[derive(Clone, Debug)]
 enum Call {
@@ -72,17 +72,11 @@ fn both(table: &mut Vec<u32>, call: &Call, tally: &mut Tally) -> u32 {
         Call::Deliver { returned_words, .. } => *returned_words,
         _ => 0,
     };
-    // The library's copy stands between guards.
-    let mut lent = vec![GUARD; MARGIN];
-    lent.extend_from_slice(table);
-    lent.extend_from_slice(&[GUARD; MARGIN]);
-    let end = MARGIN + table.len();
-    let mut out_lib = vec![GUARD; MARGIN];
-    out_lib.extend(std::iter::repeat(UNTOUCHED).take(returned_words));
-    out_lib.extend_from_slice(&[GUARD; MARGIN]);
+    let mut lent = Guarded::new(table, GUARD);
+    let mut out_lib = Guarded::new(&vec![UNTOUCHED; returned_words], GUARD);
     let mut out_sim = vec![UNTOUCHED; returned_words];
 
-    let by_lib = run_lib(&mut lent[MARGIN..end], call, &mut out_lib[MARGIN..MARGIN + returned_words]);
+    let by_lib = run_lib(lent.inside(), call, out_lib.inside());
     let by_sim = run_sim(table, call, &mut out_sim);
 
     let story = || {
@@ -93,15 +87,14 @@ fn both(table: &mut Vec<u32>, call: &Call, tally: &mut Tally) -> u32 {
         fail(&format!("{}: library answers {}, simulator {}", story(), by_lib, by_sim));
     }
     for i in 0..table.len() {
-        if lent[MARGIN + i] != table[i] {
-            fail(&format!("{}, answer {}: word {} was {}, library {}, simulator {}", story(), by_sim, i, before[i], lent[MARGIN + i], table[i]));
+        if lent.inside()[i] != table[i] {
+            fail(&format!("{}, answer {}: word {} was {}, library {}, simulator {}", story(), by_sim, i, before[i], lent.inside()[i], table[i]));
         }
     }
-    if out_lib[MARGIN..MARGIN + returned_words] != out_sim[..] {
-        fail(&format!("{}, answer {}: returned by library {:?}, simulator {:?}", story(), by_sim, &out_lib[MARGIN..MARGIN + returned_words], out_sim));
+    if out_lib.inside() != &out_sim[..] {
+        fail(&format!("{}, answer {}: returned by library {:?}, simulator {:?}", story(), by_sim, out_lib.inside(), out_sim));
     }
-    let guards = [&lent[..MARGIN], &lent[end..], &out_lib[..MARGIN], &out_lib[MARGIN + returned_words..]];
-    if guards.iter().any(|g| g.iter().any(|w| *w != GUARD)) {
+    if !lent.intact() || !out_lib.intact() {
         fail(&format!("{}: wrote outside what was lent", story()));
     }
     if by_sim != 0 && *table != before {
@@ -133,10 +126,6 @@ fn both(table: &mut Vec<u32>, call: &Call, tally: &mut Tally) -> u32 {
 
 // ---------------------------------------------------------------- making calls
 
-fn random_value(rng: &mut Rng) -> Vec<u32> {
-    (0..8).map(|_| rng.word()).collect()
-}
-
 /// A call that mostly moves things forward.
 fn useful_call(rng: &mut Rng, n: u32, table: &[u32], crash_once_in: u64) -> Call {
     let member = rng.between(1, n);
@@ -145,17 +134,14 @@ fn useful_call(rng: &mut Rng, n: u32, table: &[u32], crash_once_in: u64) -> Call
     }
     if table[block_start(n, member)] == IDLE {
         let slot = if rng.once_in(2) { 1 } else { rng.between(1, n) };
-        let op_type = if slot == member { WRITE } else { READ };
-        return Call::Begin { member, slot, op_type, value: random_value(rng) };
+        return Call::Begin { member, slot, op_type: type_for(member, slot), value: random_sheet(rng).to_vec() };
     }
     Call::Deliver { member, returned_words: 9 }
 }
 
 /// A call with any arguments.
 fn any_call(rng: &mut Rng, n: u32) -> Call {
-    let edge = [0, 1, 2, n, n.wrapping_add(1), 11, 12, 13, 255, 256, 0x8000_0000, u32::MAX];
-    let near = n.min(12);
-    let member = if rng.once_in(2) && near > 0 { rng.between(1, near) } else { *rng.pick(&edge) };
+    let member = any_number(rng, n);
     match rng.below(8) {
         0 => Call::Crash { member },
         1 | 2 | 3 => {
@@ -163,9 +149,9 @@ fn any_call(rng: &mut Rng, n: u32) -> Call {
             Call::Deliver { member, returned_words }
         }
         _ => {
-            let slot = if rng.once_in(2) && near > 0 { rng.between(1, near) } else { *rng.pick(&edge) };
-            let op_type = if rng.once_in(4) { *rng.pick(&[0, 3, 257, u32::MAX]) } else { rng.between(1, 2) };
-            let mut value = random_value(rng);
+            let slot = any_number(rng, n);
+            let op_type = any_type(rng);
+            let mut value = random_sheet(rng).to_vec();
             if rng.once_in(6) {
                 value.resize(*rng.pick(&[0, 1, 7, 9, 16]), 1);
             }
@@ -194,105 +180,23 @@ fn after_run(rng: &mut Rng, n: u32, steps: u32, crash_once_in: u64) -> Vec<u32> 
     table
 }
 
-/// A table of any words that mostly passes the table check.
+/// A table of any words that passes the table check.
 fn any_table(rng: &mut Rng, n: u32) -> Vec<u32> {
-    let high = *rng.pick(&[1u32, 2, 4]);
-    let mut table: Vec<u32> = (0..table_words(n)).map(|_| rng.between(0, high)).collect();
-    table[0] = n;
-    let any_record = |rng: &mut Rng, words: &mut [u32]| {
-        words[0] = rng.between(0, n);
-        words[1] = rng.between(0, n);
-        words[2] = rng.between(0, 2);
-    };
+    let mut table = vec![n];
     for member in 1..=n {
-        let start = block_start(n, member);
-        let slot = rng.between(1, n);
-        table[start] = rng.between(0, 6);
-        table[start + 1] = rng.once_in(5) as u32;
-        table[start + 2] = *rng.pick(&[0, 0, 21, 24, 27]);
-        table[start + 3] = slot;
-        table[start + 4] = if slot == member { WRITE } else { READ };
-        if table[start] == IDLE && rng.once_in(2) {
-            table[start + 3] = 0;
-            table[start + 4] = 0;
-        }
-        any_record(rng, &mut table[start + first_start(n)..]);
-        any_record(rng, &mut table[start + second_start(n)..]);
+        table.extend(any_block(rng, n, member));
     }
-    for slot in 1..=n {
-        let start = entries_start(n) + entry_start(n, slot);
-        table[start] = rng.between(0, n);
-        any_record(rng, &mut table[start + 2..]);
-        any_record(rng, &mut table[start + 2 + record_words(n)..]);
-    }
+    table.extend(any_entries(rng, n));
     table
 }
 
-/// One member in phase 2 whose reply is nearly good, so that every halt and
-/// every way of joining rows comes up.
-fn near_reply(rng: &mut Rng, n: u32) -> (Vec<u32>, u32) {
-    let mut table = new_table(n);
-    let member = rng.between(1, n);
-    let slot = rng.between(1, n);
-    let m = member as usize - 1;
-    let r = slot as usize - 1;
-    let base = *rng.pick(&[0u32, 5, u32::MAX - 9]);
-    let mut block = block_of(&table, member);
+/// One member in phase 2 whose reply is nearly good.
+fn near_table(rng: &mut Rng, n: u32) -> (Vec<u32>, u32) {
+    let NearReply { member, mut block, newest, stored } = near_reply(rng, n);
     block.phase = REPLY_SENT;
-    block.slot = slot;
-    block.op_type = if slot == member { WRITE } else { READ };
-    let mut newest = opening_record(n, slot);
-    newest.member = rng.between(0, n);
-    for k in 0..n as usize {
-        block.own_counts[k] = base + rng.between(3, 6);
-        block.accepted_counts[k] = base + rng.between(2, 3);
-        for c in 0..n as usize {
-            newest.matrix[k][c] = base + rng.between(1, 3);
-        }
-        // Known is equal, below or above, the slot's row not above.
-        let turn = rng.below(3);
-        for c in 0..n as usize {
-            let here = newest.matrix[k][c];
-            block.known[k][c] = match turn {
-                0 => here,
-                1 => here - rng.between(0, 1),
-                _ if k == r => here,
-                _ => here + rng.between(0, 1),
-            };
-        }
-        if newest.matrix[k][m] > block.accepted_counts[k] {
-            newest.matrix[k][m] = block.accepted_counts[k];
-        }
-    }
-    newest.matrix[r][m] = block.accepted_counts[r];
-    let mut stored = opening_record(n, slot);
-    for k in 0..n as usize {
-        for c in 0..n as usize {
-            stored.matrix[k][c] = newest.matrix[k][c] - rng.between(0, 1);
-        }
-    }
-    stored.matrix[r][r] = newest.matrix[r][r];
-    for i in 0..8 {
-        stored.sheet[i] = rng.word();
-        block.pending_sheet[i] = rng.word();
-        block.last_sheet[i] = rng.word();
-    }
-    // Up to two small faults.
-    for _ in 0..rng.below(3) {
-        let k = rng.below(n as u64) as usize;
-        let c = rng.below(n as u64) as usize;
-        match rng.below(7) {
-            0 => block.known[k][c] += 1,
-            1 => newest.matrix[k][c] += 1,
-            2 => newest.matrix[k][c] -= 1,
-            3 => stored.matrix[k][c] += 1,
-            4 => stored.matrix[k][c] = stored.matrix[k][c].saturating_sub(1),
-            5 => stored.member = rng.between(0, n),
-            _ => block.accepted_counts[k] = block.accepted_counts[k].saturating_sub(1),
-        }
-    }
     block.first = newest;
     block.second = stored;
+    let mut table = new_table(n);
     put_block(&mut table, member, &block);
     (table, member)
 }
@@ -306,8 +210,7 @@ fn corrupt(rng: &mut Rng, table: &mut Vec<u32>) {
             // Among the five first words of a block.
             place = block_start(n, rng.between(1, n)) + rng.below(5) as usize;
         }
-        let old = table[place];
-        table[place] = *rng.pick(&[0, 1, 2, 3, n, n + 1, 6, 7, 12, 13, 20, 21, 27, 28, old ^ 1, old.wrapping_add(1), old.wrapping_sub(1), u32::MAX - 1, u32::MAX]);
+        table[place] = damaged_word(rng, table[place], n);
         if place == 0 && rng.once_in(2) {
             table[0] = n;
         }
@@ -411,8 +314,7 @@ fn fixed_arguments(tally: &mut Tally) {
                                 let begins = if slot == 0 { 1 } else { slot };
                                 both(&mut table.clone(), &Call::Deliver { member, returned_words: 9 }, tally);
                                 both(&mut table.clone(), &Call::Crash { member }, tally);
-                                let begin_type = if begins == member { WRITE } else { READ };
-                                both(&mut table, &Call::Begin { member, slot: begins, op_type: begin_type, value: vec![3; 8] }, tally);
+                                both(&mut table, &Call::Begin { member, slot: begins, op_type: type_for(member, begins), value: vec![3; 8] }, tally);
                             }
                         }
                     }
@@ -432,7 +334,7 @@ fn fixed_words(tally: &mut Tally) {
                 for word in [0, 1, 2, 3, n + 1, 7, 21, 28, u32::MAX - 1, u32::MAX] {
                     for member in 1..=n {
                         let slot = member % n + 1;
-                        let op_type = if slot == member { WRITE } else { READ };
+                        let op_type = type_for(member, slot);
                         let mut changed = table.clone();
                         changed[place] = word;
                         both(&mut changed.clone(), &Call::Begin { member, slot, op_type, value: vec![9; 8] }, tally);
@@ -511,7 +413,7 @@ fn random_round(seed: u64, tally: &mut Tally) {
         // Replies that are nearly good.
         4 => {
             for _ in 0..20 {
-                let (mut table, member) = near_reply(&mut rng, n);
+                let (mut table, member) = near_table(&mut rng, n);
                 for _ in 0..3 {
                     both(&mut table, &Call::Deliver { member, returned_words: 9 }, tally);
                 }
@@ -554,123 +456,8 @@ fn both_check(bytes: &[u8], n: u32, tally: &mut Tally) {
     tally.checks[by_sim as usize] += 1;
 }
 
-fn good_message(rng: &mut Rng, n: u32) -> Vec<u8> {
-    let record = random_record(rng, n);
-    let message = match rng.below(4) {
-        0 => Message::Submit(Submit { member: record.member, slot: record.slot, op_type: record.op_type, count: record.count }),
-        1 => Message::Reply { newest: record, stored: random_record(rng, n) },
-        2 => Message::Commit(record),
-        _ => Message::Outcome(rng.between(1, 2)),
-    };
-    let mut out = vec![0; 1300];
-    let length = messages::write(&message, n, &mut out).expect("a good message");
-    out.truncate(length);
-    out
-}
-
-fn mend_length(bytes: &mut Vec<u8>) {
-    if bytes.len() >= 2 {
-        let length = bytes.len() - 2;
-        bytes[0] = (length / 256) as u8;
-        bytes[1] = (length % 256) as u8;
-    }
-}
-
-fn fixed_messages(tally: &mut Tally) {
-    let mut rng = Rng::new(13);
-    for n in 1..=12u32 {
-        let mut seen = [false; 5];
-        while seen[1..].iter().any(|s| !*s) {
-            let good = good_message(&mut rng, n);
-            if seen[good[3] as usize] {
-                continue;
-            }
-            seen[good[3] as usize] = true;
-            for other in [0, 1, 2, 3, 4, 5, 6, 7, 8, 9, 10, 11, 12, 13, 255, 256, 256 + n, u32::MAX] {
-                both_check(&good, other, tally);
-            }
-            for length in 0..good.len() {
-                both_check(&good[..length], n, tally);
-                let mut cut = good[..length].to_vec();
-                mend_length(&mut cut);
-                both_check(&cut, n, tally);
-            }
-            for more in 1..6 {
-                let mut longer = good.clone();
-                longer.extend(vec![1; more]);
-                both_check(&longer, n, tally);
-                mend_length(&mut longer);
-                both_check(&longer, n, tally);
-            }
-            for place in 0..good.len() {
-                for byte in [0, 1, 2, 3, 4, 5, n as u8, n as u8 + 1, 12, 13, 127, 128, 255] {
-                    let mut changed = good.clone();
-                    changed[place] = byte;
-                    both_check(&changed, n, tally);
-                }
-            }
-        }
-        // Every length with every kind and the right length field.
-        for length in 0..1300 {
-            for kind in 0..=5 {
-                let mut bytes = vec![1u8; length];
-                mend_length(&mut bytes);
-                if length > 3 {
-                    bytes[3] = kind;
-                }
-                if length > 4 {
-                    bytes[4] = n as u8;
-                }
-                both_check(&bytes, n, tally);
-            }
-        }
-    }
-    // Longer than a length field can say.
-    for length in [65535, 65536, 65537, 65538, 65539, 65547, 70000] {
-        let mut bytes = vec![1u8; length];
-        mend_length(&mut bytes);
-        both_check(&bytes, 2, tally);
-        bytes[0] = 0;
-        bytes[1] = 9;
-        both_check(&bytes, 2, tally);
-    }
-}
-
-fn random_messages(seed: u64, tally: &mut Tally) {
-    let mut rng = Rng::new(seed);
-    for _ in 0..40 {
-        let n = rng.between(1, 12);
-        let mut bytes = good_message(&mut rng, n);
-        if rng.once_in(5) {
-            bytes = (0..rng.below(1300)).map(|_| rng.between(0, 4) as u8).collect();
-        }
-        if rng.once_in(3) {
-            let length = rng.below(bytes.len() as u64 + 4) as usize;
-            bytes.resize(length, 1);
-        }
-        if rng.once_in(2) {
-            mend_length(&mut bytes);
-        }
-        for _ in 0..rng.below(3) {
-            if !bytes.is_empty() {
-                let reach = if rng.once_in(2) { bytes.len().min(12) } else { bytes.len() };
-                let place = rng.below(reach as u64) as usize;
-                bytes[place] = *rng.pick(&[0, 1, 2, 3, 4, 5, 12, 13, 128, 255]);
-            }
-        }
-        let asked = if rng.once_in(6) { *rng.pick(&[0, 1, 2, 12, 13, u32::MAX]) } else { n };
-        both_check(&bytes, asked, tally);
-    }
-}
-
 fn main() {
-    let args: Vec<String> = std::env::args().collect();
-    if args.len() < 2 {
-        println!("usage: capi SECONDS [SEED]");
-        std::process::exit(2);
-    }
-    let limit = Duration::from_secs_f64(args[1].parse().expect("seconds"));
-    let seed: u64 = if args.len() > 2 { args[2].parse().expect("seed") } else { 7 };
+    let (limit, seed) = arguments::seconds_and_seed("capi");
     let start = Instant::now();
     let mut tally = Tally::default();
 
@@ -678,13 +465,13 @@ fn main() {
     fixed_lengths(&mut tally);
     fixed_arguments(&mut tally);
     fixed_words(&mut tally);
-    fixed_messages(&mut tally);
+    fixed_messages(&mut |bytes, n| both_check(bytes, n, &mut tally));
     let fixed = start.elapsed();
     // The random part runs in the time that is left, at least 500 rounds.
     let mut rounds: u64 = 0;
     while rounds < 500 || start.elapsed() < limit {
         random_round(seed.wrapping_mul(1_000_003).wrapping_add(rounds), &mut tally);
-        random_messages(seed.wrapping_mul(2_000_003).wrapping_add(rounds), &mut tally);
+        random_messages(seed.wrapping_mul(2_000_003).wrapping_add(rounds), &mut |bytes, n| both_check(bytes, n, &mut tally));
         rounds += 1;
     }
 

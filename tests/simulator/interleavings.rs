@@ -1,12 +1,12 @@
 // Drives the C interface along all 756,756 interleavings of three operations
-// of five steps each, once all on one slot, once on a mix of slots, and
-// compares each call with the book of a run: answer, phases, returned.
-// Then the same with one crash, for each of the 16 places and 3 members, as
-// far as the time allows: each of these 48 gets an equal share of it.
-// Usage: interleavings SECONDS
+// of five steps each, and along all of them with one crash, of each member at
+// each of the 16 places: 36,324,288 more. Once all on one slot, once on a mix
+// of slots. Compares each call with the book of a run: answer, phases, returned.
+// Ends with 1 where any differs, or where not all were walked.
+// Usage: interleavings [without-crashes]
 //
-// Interleavings that start alike share the work of their start: the table
-// and the book are copied at each fork.
+// Interleavings that start alike share the work of their start: the table and
+// the book are copied at each fork, and the last branch goes on in place.
 #![allow(dead_code)]
 
 mod board;
@@ -14,11 +14,13 @@ mod c_lib;
 mod reference;
 
 use reference::{Book, Call, Sheet};
-use std::time::{Duration, Instant};
+use std::time::Instant;
 
 const N: u32 = 3;
 const STEPS: usize = 5;
 const ALL: u64 = 756_756;
+const ALL_WITH_CRASH: u64 = 48 * ALL; // 16 places, 3 members
+const FORKS: usize = 17; // no walk forks more often
 
 /// What each of the three members does: slot and type.
 struct Plan {
@@ -35,24 +37,70 @@ fn sheet_of(member: u32, last: u32) -> Sheet {
 struct State {
     table: Vec<u32>,
     book: Book,
-    done: [usize; 3],          // steps done by each member
-    submit_at: [usize; 3],     // place of the submit and of the commit, 0 for none yet
+    done: [usize; 3],      // steps done by each member
+    submit_at: [usize; 3], // place of the submit and of the commit, 0 for none yet
     commit_at: [usize; 3],
-    place: usize,              // calls made so far, the crash not counted
-    crashed: bool,
+    place: usize,          // calls made so far, the crash not counted
+    crashed: Option<usize>,
+}
+
+impl State {
+    fn copy_from(&mut self, other: &State) {
+        self.table.copy_from_slice(&other.table);
+        self.book.clone_from(&other.book);
+        self.done = other.done;
+        self.submit_at = other.submit_at;
+        self.commit_at = other.commit_at;
+        self.place = other.place;
+        self.crashed = other.crashed;
+    }
+
+    /// The member's next step, on both.
+    fn step(&mut self, plan: &Plan, m: usize) {
+        let member = m as u32 + 1;
+        let call = if self.done[m] == 0 {
+            Call::Begin { member, slot: plan.slots[m], op_type: plan.types[m], sheet: sheet_of(member, 200 + member) }
+        } else {
+            Call::Deliver { member }
+        };
+        let answer = both(&mut self.table, &mut self.book, &call);
+        self.place += 1;
+        self.done[m] += 1;
+        if answer != 0 {
+            if self.crashed != Some(m) {
+                fail(&format!("{:?} of a member that has not crashed is answered {}", call, answer));
+            }
+            return;
+        }
+        if self.done[m] == 2 {
+            self.submit_at[m] = self.place;
+        }
+        if self.done[m] == 4 {
+            self.commit_at[m] = self.place;
+        }
+    }
+
+    fn crash(&mut self, m: usize) {
+        both(&mut self.table, &mut self.book, &Call::Crash { member: m as u32 + 1 });
+        self.crashed = Some(m);
+    }
+}
+
+#[derive(Default)]
+struct Count {
+    leaves: u64,
+    calls: u64,
+    accepted: u64,
+    aborted: u64,
+    unfinished: u64,
 }
 
 struct Walk<'a> {
     plan: &'a Plan,
-    crash: Option<(usize, usize)>, // before which call, and which member (0 to 2)
-    deadline: Option<Instant>,
-    leaves: u64,
-    calls: u64,
-    operations: u64,
-    accepted: u64,
-    aborted: u64,
-    unfinished: u64,
-    stopped: bool,
+    crashes: bool,
+    states: Vec<State>, // one for each fork on the way
+    without: Count,
+    with: Count,
 }
 
 fn fail(what: &str) -> ! {
@@ -113,79 +161,67 @@ fn start() -> State {
     }
     book.history.clear();
     book.aborted = 0;
-    State { table, book, done: [0; 3], submit_at: [0; 3], commit_at: [0; 3], place: 0, crashed: false }
+    State { table, book, done: [0; 3], submit_at: [0; 3], commit_at: [0; 3], place: 0, crashed: None }
 }
 
 impl Walk<'_> {
-    fn walk(&mut self, state: &State) {
-        if let Some(deadline) = self.deadline {
-            if self.stopped || (self.calls % 1024 == 0 && Instant::now() > deadline) {
-                self.stopped = true;
-                return;
-            }
-        }
-        if let Some((place, m)) = self.crash {
-            if state.place == place && !state.crashed {
-                let mut next = state.clone();
-                both(&mut next.table, &mut next.book, &Call::Crash { member: m as u32 + 1 });
-                self.calls += 1;
-                next.crashed = true;
-                self.walk(&next);
-                return;
-            }
-        }
-        if state.done == [STEPS; 3] {
-            self.leaf(state);
-            return;
-        }
-        for m in 0..3 {
-            if state.done[m] == STEPS {
-                continue;
-            }
-            let member = m as u32 + 1;
-            let call = if state.done[m] == 0 {
-                Call::Begin { member, slot: self.plan.slots[m], op_type: self.plan.types[m], sheet: sheet_of(member, 200 + member) }
-            } else {
-                Call::Deliver { member }
-            };
-            let mut next = state.clone();
-            let answer = both(&mut next.table, &mut next.book, &call);
-            self.calls += 1;
-            next.place += 1;
-            next.done[m] += 1;
-            let has_crashed = state.crashed && self.crash.map(|c| c.1) == Some(m);
-            if answer != 0 && !has_crashed {
-                fail(&format!("{:?} of a member that has not crashed is answered {}", call, answer));
-            }
-            if answer == 0 && next.done[m] == 2 {
-                next.submit_at[m] = next.place;
-            }
-            if answer == 0 && next.done[m] == 4 {
-                next.commit_at[m] = next.place;
-            }
-            self.walk(&next);
+    /// What is counted for the state of this fork.
+    fn count(&mut self, fork: usize) -> &mut Count {
+        if self.states[fork].crashed.is_some() {
+            &mut self.with
+        } else {
+            &mut self.without
         }
     }
 
+    fn copy_on(&mut self, fork: usize) {
+        let (before, after) = self.states.split_at_mut(fork + 1);
+        after[0].copy_from(&before[fork]);
+    }
+
+    /// All that follows the state of this fork.
+    fn walk(&mut self, fork: usize) {
+        if self.crashes && self.states[fork].crashed.is_none() {
+            for m in 0..3 {
+                self.copy_on(fork);
+                self.states[fork + 1].crash(m);
+                self.with.calls += 1;
+                self.walk(fork + 1);
+            }
+        }
+        let done = self.states[fork].done;
+        let last = match (0..3).rev().find(|m| done[*m] < STEPS) {
+            Some(m) => m,
+            None => return self.leaf(fork),
+        };
+        for m in (0..last).filter(|m| done[*m] < STEPS) {
+            self.copy_on(fork);
+            self.step(fork + 1, m);
+        }
+        self.step(fork, last);
+    }
+
+    fn step(&mut self, fork: usize, m: usize) {
+        self.states[fork].step(self.plan, m);
+        self.count(fork).calls += 1;
+        self.walk(fork);
+    }
+
     /// Counts the verdicts, and once more by the places of submits and commits alone.
-    fn leaf(&mut self, state: &State) {
-        self.leaves += 1;
+    fn leaf(&mut self, fork: usize) {
+        let state = &self.states[fork];
         let mut aborted = 0;
         let mut accepted = 0;
+        let mut unfinished = 0;
         for m in 0..3 {
-            self.operations += 1;
-            if state.commit_at[m] == 0 {
-                self.unfinished += 1;
-                continue;
-            }
-            let mut overtaken = false;
-            for other in 0..3 {
+            let committed = state.commit_at[m];
+            let overtaken = (0..3).any(|other| {
                 let same = other != m && self.plan.slots[other] == self.plan.slots[m];
-                if same && state.submit_at[other] > state.submit_at[m] && state.submit_at[other] < state.commit_at[m] {
-                    overtaken = true;
-                }
-            }
-            if overtaken {
+                same && state.submit_at[other] > state.submit_at[m] && state.submit_at[other] < committed
+            });
+            if committed == 0 {
+                unfinished += 1;
+            } else if overtaken {
                 aborted += 1;
             } else {
                 accepted += 1;
@@ -194,87 +230,55 @@ impl Walk<'_> {
         if aborted != state.book.aborted || accepted != state.book.history.len() as u64 {
             fail("the book's verdicts are not those by the places of submits and commits");
         }
-        self.aborted += aborted;
-        self.accepted += accepted;
+        let count = self.count(fork);
+        count.leaves += 1;
+        count.accepted += accepted;
+        count.aborted += aborted;
+        count.unfinished += unfinished;
     }
 }
 
-fn walk_all<'a>(plan: &'a Plan, crash: Option<(usize, usize)>, limit: Option<Duration>) -> Walk<'a> {
-    let mut walk = Walk {
-        plan,
-        crash,
-        deadline: limit.map(|l| Instant::now() + l),
-        leaves: 0,
-        calls: 0,
-        operations: 0,
-        accepted: 0,
-        aborted: 0,
-        unfinished: 0,
-        stopped: false,
-    };
-    walk.walk(&start());
-    if !walk.stopped && walk.leaves != ALL {
-        fail(&format!("{} interleavings, expected {}", walk.leaves, ALL));
-    }
-    walk
-}
-
-fn without_crash(plan: &Plan) {
-    let began = Instant::now();
-    let walk = walk_all(plan, None, None);
+fn report(name: &str, count: &Count, all: u64) {
     println!(
-        "{}: {} interleavings, {} calls, {} operations, {} accepted, {} aborted, {:.1} s",
-        plan.name, walk.leaves, walk.calls, walk.operations, walk.accepted, walk.aborted, began.elapsed().as_secs_f64()
+        "{}: {} of {} interleavings, {} calls, {} operations, {} accepted, {} aborted, {} without a verdict",
+        name, count.leaves, all, count.calls, 3 * count.leaves, count.accepted, count.aborted, count.unfinished
     );
+    if count.leaves != all {
+        fail("not all interleavings were walked");
+    }
 }
 
-fn with_crash(plan: &Plan, limit: Duration) {
+fn walk_all(plan: &Plan, crashes: bool) {
     let began = Instant::now();
-    let mut whole = 0;
-    let (mut leaves, mut calls, mut operations, mut accepted, mut aborted, mut unfinished) = (0, 0, 0, 0, 0, 0);
-    let mut left = 48;
-    for place in 0..16 {
-        for m in 0..3 {
-            // What is left of the time, shared by what is left to do.
-            let share = limit.saturating_sub(began.elapsed()) / left;
-            left -= 1;
-            let walk = walk_all(plan, Some((place, m)), Some(share));
-            if !walk.stopped {
-                whole += 1;
-            }
-            leaves += walk.leaves;
-            calls += walk.calls;
-            operations += walk.operations;
-            accepted += walk.accepted;
-            aborted += walk.aborted;
-            unfinished += walk.unfinished;
-        }
+    let mut walk = Walk { plan, crashes, states: vec![start(); FORKS], without: Count::default(), with: Count::default() };
+    walk.walk(0);
+    report(plan.name, &walk.without, ALL);
+    if crashes {
+        report(&format!("{} with one crash", plan.name), &walk.with, ALL_WITH_CRASH);
     }
-    println!(
-        "{} with one crash: {} of {} interleavings ({} of 48 places and members wholly), {} calls, {} operations, {} accepted, {} aborted, {} without a verdict, {:.1} s",
-        plan.name, leaves, ALL * 48, whole, calls, operations, accepted, aborted, unfinished, began.elapsed().as_secs_f64()
-    );
+    println!("{}: {:.1} s", plan.name, began.elapsed().as_secs_f64());
 }
 
 fn main() {
-    let args: Vec<String> = std::env::args().collect();
-    if args.len() != 2 {
-        println!("usage: interleavings SECONDS (for the part with crashes)");
-        std::process::exit(2);
-    }
-    let seconds: f64 = args[1].parse().expect("seconds");
+    let args: Vec<String> = std::env::args().skip(1).collect();
+    let crashes = match args.iter().map(|a| a.as_str()).collect::<Vec<_>>()[..] {
+        [] => true,
+        ["without-crashes"] => false,
+        _ => {
+            println!("usage: interleavings [without-crashes]");
+            std::process::exit(2);
+        }
+    };
     let (r, w) = (board::READ, board::WRITE);
     let plans = [
         Plan { name: "one slot", slots: [3, 3, 3], types: [r, r, w] },
         Plan { name: "mixed slots", slots: [1, 1, 2], types: [w, r, r] },
     ];
-    for plan in &plans {
-        without_crash(plan);
-    }
-    if seconds > 0.0 {
+    // Both at once.
+    std::thread::scope(|threads| {
         for plan in &plans {
-            with_crash(plan, Duration::from_secs_f64(seconds / 2.0));
+            threads.spawn(move || walk_all(plan, crashes));
         }
-    }
+    });
     println!("all agreed");
 }

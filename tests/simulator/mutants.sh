@@ -1,7 +1,7 @@
 #!/bin/bash
 # Usage: mutants.sh OUTDIR   (after build.sh OUTDIR)
 # Makes wrong stub libraries and wrong simulators, one fault each, and sees
-# that capi, interleavings or compare_scripts.sh notices every one.
+# that capi, interleavings, halves or compare_scripts.sh notices every one.
 if [ $# -ne 1 ] || [ ! -x "$1/simulator" ]; then
     echo "usage: mutants.sh OUTDIR, after build.sh OUTDIR"
     exit 2
@@ -34,15 +34,29 @@ verdict() { # name, 1 if noticed, by what
     fi
 }
 
-library() { # name, file, perl change
+shared_library() { # source folder
+    rustc -A warnings -O --edition 2021 --crate-type cdylib "$1/stub_library.rs" -o "$shared/libconcur.so" || exit 2
+}
+
+library() { # name, file, perl change, "too" where interleavings is asked in any case
     spoil "$2" "$3"
-    rustc -A warnings -O --edition 2021 --crate-type cdylib "$work/source/stub_library.rs" -o "$shared/libconcur.so" || exit 2
+    shared_library "$work/source"
     by=""
     "$shared/capi" 1 > "$work/log" 2>&1 || by="capi"
     if [ -z "$by" ] || [ "$4" = too ]; then
-        "$shared/interleavings" 0 >> "$work/log" 2>&1 || by="$by interleavings"
+        "$shared/interleavings" without-crashes >> "$work/log" 2>&1 || by="$by interleavings"
     fi
     verdict "$1" "$([ -n "$by" ] && echo 1)" "$by: $(grep -h DIFF "$work/log" | head -1 | cut -c1-110)"
+}
+
+half() { # name, file, perl change: what capi and interleavings cannot notice
+    spoil "$2" "$3"
+    shared_library "$work/source"
+    if "$shared/halves" 0 > "$work/log" 2>&1; then
+        verdict "$1" 0
+    else
+        verdict "$1" 1 "$(grep -h DIFF "$work/log" | head -1 | cut -c1-180)"
+    fi
 }
 
 program() { # name, file, perl change
@@ -55,14 +69,16 @@ program() { # name, file, perl change
     fi
 }
 
-# The two programs are linked once, against a shared library that is then
+# The programs are linked once, against a shared library that is then
 # replaced by each wrong one.
 mkdir -p "$shared"
-cd "$here"
-rustc -O --edition 2021 --crate-type cdylib stub_library.rs -o "$shared/libconcur.so" || exit 2
-rustc -O --edition 2021 capi.rs -o "$shared/capi" -C link-arg="$shared/libconcur.so" || exit 2
-rustc -O --edition 2021 interleavings.rs -o "$shared/interleavings" -C link-arg="$shared/libconcur.so" || exit 2
-"$shared/capi" 1 > "$shared/log" || { echo "the right library does not pass"; cat "$shared/log"; exit 2; }
+shared_library "$here"
+for linked in capi interleavings halves; do
+    rustc -O --edition 2021 "$here/$linked.rs" -o "$shared/$linked" -C link-arg="$shared/libconcur.so" || exit 2
+done
+for linked in capi halves; do
+    "$shared/$linked" 1 > "$shared/log" || { echo "the right library does not pass"; cat "$shared/log"; exit 2; }
+done
 
 library "an overtaken submit clears the mark" board.rs 's/entry.submit_member = member;/entry.submit_member = if entry.submit_member != 0 { 0 } else { member };/' too
 library "the first submit keeps the mark" board.rs 's/entry.submit_member = member;\n    entry.submit_count = count;/if entry.submit_member == 0 { entry.submit_member = member; entry.submit_count = count; }/' too
@@ -106,6 +122,51 @@ library "message length not compared" messages.rs 's/if length != length_field\(
 library "message n not compared" messages.rs 's/if bytes\[4\] as u32 != n \{/if bytes[4] == 0 {/'
 library "second record of a reply not checked" messages.rs 's/if record_fields_bad\(&second, n\) \{/if false {/'
 library "kind before version" messages.rs 's/if bytes\[2\] != 1 \{/if bytes[2] != 1 \&\& bytes[3] >= 1 \&\& bytes[3] <= 4 {/'
+
+half "a half's n after its length" board.rs 's/(fn check_block.*?)(    if !n_is_good\(n\) \{\n        return 1;\n    \}\n)(    if words.len\(\) != block_words\(n\) \{)/$1    if n < 99 \&\& words.len() != block_words(n) {\n        return 2;\n    }\n$2$3/s'
+half "3 on the first entry alone" board.rs 's/(fn check_entries.*?for slot in 1..=)n/${1}1/s'
+half "3 does not use a member that is not there" board.rs 's/(fn check_block.*?)block_words_bad\(words, n, member\)/$1(in_range(member, n) \&\& block_words_bad(words, n, member))/s'
+half "10 before 4 at a reply" board.rs 's/(fn half_take_reply.*?)(    if !in_range\(member, n\) \{\n        return Err\(4\);\n    \}\n)(.*?return Err\(10\);\n    \}\n)/$1$3$2/s'
+half "15 before 10 at a reply" board.rs 's/(    if block.phase != SUBMIT_SENT \|\| block.crash_mark == 1 \{.*?\n    \}\n)(    if seals > 3 .*?\n    \}\n)/$2$1/s'
+half "15 before 10 at an outcome" board.rs 's/(    if block.phase != COMMIT_SENT \|\| block.crash_mark == 1 \{.*?\n    \}\n)(    if outcome != ACCEPTED .*?\n    \}\n)/$2$1/s'
+half "a reply is taken in phase 2" board.rs 's/if block.phase != SUBMIT_SENT \|\|/if block.phase != SUBMIT_SENT \&\& block.phase != REPLY_SENT ||/'
+half "an outcome is taken in phase 4" board.rs 's/if block.phase != COMMIT_SENT \|\|/if block.phase != COMMIT_SENT \&\& block.phase != ACCEPTED_SENT ||/'
+half "a crashed half takes a reply" board.rs 's/block.phase != SUBMIT_SENT \|\| block.crash_mark == 1/block.phase != SUBMIT_SENT/'
+half "a crashed half takes an outcome" board.rs 's/block.phase != COMMIT_SENT \|\| block.crash_mark == 1/block.phase != COMMIT_SENT/'
+half "seal of the newest record alone" board.rs 's/if seals != 3/if seals \& 1 == 0/'
+half "seal of the stored record alone" board.rs 's/if seals != 3/if seals \& 2 == 0/'
+half "one seal is enough" board.rs 's/if seals != 3/if seals == 0/'
+half "seals 4 is a halt" board.rs 's/if seals > 3/if seals > 4/'
+half "the fields of a reply's stored record are not judged" board.rs 's/ \|\| record_fields_bad\(stored, n\) \{/ {/'
+half "a stored record of another member is 15" board.rs 's/ \|\| record_fields_bad\(stored, n\) \{/ || record_fields_bad(stored, n) || stored.member != block.slot {/'
+half "the newest record is kept for the outcome" board.rs 's/(step_reply\(&mut block, n, member, seals, newest, stored\);)/$1 if block.phase == COMMIT_SENT { block.second = newest.clone(); }/'
+half "the stored record's slot is set to the block's" board.rs 's/(step_reply\(&mut block, n, member, seals, newest, stored\);)/$1 if block.phase == COMMIT_SENT { block.second.slot = block.slot; }/'
+half "an aborted read returns a value" board.rs 's/let returned = step_outcome\(&mut block, n, outcome\);/let value = if block.op_type == READ { Some(block.second.sheet) } else { None };\n    step_outcome(\&mut block, n, outcome);\n    let returned = value;/'
+half "11 before 4 in a half" board.rs 's/(fn half_crash.*?)    if !in_range\(member, n\) \{\n        return 4;/$1    if !in_range(member, n) {\n        return if words[1] == 1 { 11 } else { 4 };/s'
+half "a submit lands in the next entry" board.rs 's/put_entry_in\(entries, n, submit.slot, &entry\)/put_entry_in(entries, n, submit.slot % n + 1, \&entry)/'
+half "a submit's count is judged" board.rs 's/(fn host_submit.*?let ground = )/$1if submit.count == 0 { 6 } else { 0 }; if ground != 0 { return Err(ground); } let ground = /s'
+half "the host hands out stored and newest" calls_sim.rs 's/records_to_words\(newest, stored\)/records_to_words(stored, newest)/'
+half "unused counts are read" flat.rs 's/(fn record_from_words.*?)words\[count_place\(row, column\)\]/${1}words[12 + row * n as usize + column]/s'
+half "unused counts are judged" calls_sim.rs 's/let newest = record_from_words\(records, n\);/let newest = record_from_words(records, n); if n < 12 \&\& records[count_place(0, n as usize)] != 0 { return 15; }/'
+half "unused counts are not zero" flat.rs 's/let mut words = vec!\[0; RECORD\]/let mut words = vec![1; RECORD]/'
+half "a refused message leaves the fields" calls_sim.rs 's/fields.fill\(0\);//'
+half "a refused outcome leaves what was returned" calls_sim.rs 's/returned.fill\(0\);/if board::half_take_outcome(\&mut block.to_vec(), n, member, outcome).number == 0 { returned.fill(0); }/'
+half "a length beside is looked at after n" calls_sim.rs 's/if records.len\(\) != RECORDS \{\n            return 2;\n        \}\n        if !n_is_good\(n\)/if n_is_good(n) \&\& records.len() != RECORDS {\n            return 2;\n        }\n        if !n_is_good(n)/'
+half "results are filled at a wrong length" calls_sim.rs 's/if record.len\(\) != RECORD \|\| outcome.len\(\) != 1 \{/if record.len() != RECORD || outcome.len() != 1 {\n            outcome.fill(0);/'
+half "words past a block are written" stub_calls.rs 's/Simulator::crash\(lent\(block, words\), n, member\)/lent(block, words + 1)[words] = 0;\n    Simulator::crash(lent(block, words), n, member)/'
+half "a submit's count read from its other end" messages.rs 's/count: number_at\(bytes, 7\)/count: number_at(bytes, 7).swap_bytes()/'
+half "rows read as columns" messages.rs 's/record.matrix\[row\]\[column\] = number_at/record.matrix[column][row] = number_at/'
+half "a value read from its last word on" messages.rs 's/record.sheet\[i\] = number_at/record.sheet[7 - i] = number_at/'
+half "a reply's records read in the other order" messages.rs 's/Message::Reply \{ newest: first, stored: second \}/Message::Reply { newest: second, stored: first }/'
+half "a written record's slot before its member" messages.rs 's/out.push\(record.member as u8\);\n    out.push\(record.slot as u8\);/out.push(record.slot as u8);\n    out.push(record.member as u8);/'
+half "the length field counts itself" messages.rs 's/output\[1\] = \(body.len\(\) % 256\)/output[1] = (whole % 256)/'
+half "the written length without the length field" messages.rs 's/Ok\(whole\)/Ok(whole - 2)/'
+half "the writer clears the rest of the output" messages.rs 's/(output\[2..whole\].copy_from_slice\(&body\);)/$1 output[whole..].fill(0);/'
+half "the writer judges the low byte alone" messages.rs 's/three_bad\(s.member, /three_bad(s.member \& 255, /'
+half "an output one byte longer is asked for" messages.rs 's/output.len\(\) < whole/output.len() <= whole/'
+half "16 before 15" messages.rs 's/if bad \{\n        return Err\(15\)/if bad {\n        return Err(if output.len() < 5 { 16 } else { 15 })/'
+half "15 before 1 in the writer" calls_sim.rs 's/written\[0\] = 0;/written[0] = 0; if fields[0] == 0 || fields[0] > 4 { return 15; }/'
+half "a kind that is none is 14 in the writer" calls_sim.rs 's/None => return 15/None => return 14/'
 
 [ -d "$out/scripts" ] || "$out/gen_scripts" "$out/scripts" 1 100
 program "leading zeros taken" script.rs 's/\(piece.len\(\) > 1 && piece\[0\] == b.0.\)/false/'

@@ -14,7 +14,7 @@ pub enum Call {
 }
 
 /// A running operation.
-#[derive(Clone, Debug)]
+#[derive(Clone, Copy, Debug)]
 pub struct Operation {
     pub slot: u32,
     pub op_type: u32,
@@ -34,20 +34,49 @@ pub struct Line {
     pub sheet: Sheet, // written, or noted by a read
 }
 
-#[derive(Clone, Debug)]
+#[derive(Debug)]
 pub struct Member {
     pub crashed: bool,
     pub running: Option<Operation>,
     pub begins: Vec<u32>,
 }
 
-#[derive(Clone, Debug)]
+#[derive(Debug)]
 pub struct Book {
     pub n: u32,
     pub sheets: Vec<Sheet>,
     pub members: Vec<Member>,
     pub history: Vec<Line>,
     pub aborted: u64, // how many verdicts were "aborted"
+}
+
+// Copies into a book that is there use its room once more.
+impl Clone for Member {
+    fn clone(&self) -> Member {
+        Member { begins: self.begins.clone(), ..*self }
+    }
+
+    fn clone_from(&mut self, other: &Member) {
+        self.crashed = other.crashed;
+        self.running = other.running;
+        self.begins.clone_from(&other.begins);
+    }
+}
+
+impl Clone for Book {
+    fn clone(&self) -> Book {
+        let mut copy = Book::new(self.n);
+        copy.clone_from(self);
+        copy
+    }
+
+    fn clone_from(&mut self, other: &Book) {
+        self.n = other.n;
+        self.sheets.clone_from(&other.sheets);
+        self.members.clone_from(&other.members);
+        self.history.clone_from(&other.history);
+        self.aborted = other.aborted;
+    }
 }
 
 impl Book {
@@ -144,7 +173,7 @@ impl Book {
         let crashed = self.members[me].crashed;
         let mut op = match &self.members[me].running {
             None => return (10, None),
-            Some(op) => op.clone(),
+            Some(op) => *op,
         };
         // The second and the fourth deliver go to the member.
         if crashed && (op.delivers == 1 || op.delivers == 3) {

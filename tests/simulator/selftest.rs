@@ -3,17 +3,18 @@
 #![allow(dead_code)]
 
 mod board;
+mod message_cases;
 mod messages;
-mod reference;
 mod random;
+mod reference;
 mod rng;
 mod script;
 
 use board::*;
 use messages::Message;
 use reference::{Book, Call};
+use random::random_sheet;
 use rng::Rng;
-use random::random_record;
 
 fn main() {
     let args: Vec<String> = std::env::args().collect();
@@ -509,15 +510,7 @@ fn message_round_trips(rng: &mut Rng) {
     let mut made = 0;
     for n in 1..=12 {
         for _ in 0..100 {
-            let record = random_record(rng, n);
-            let submit = Submit { member: record.member, slot: record.slot, op_type: record.op_type, count: record.count };
-            let all = [
-                Message::Submit(submit),
-                Message::Reply { newest: record.clone(), stored: random_record(rng, n) },
-                Message::Commit(record),
-                Message::Outcome(rng.between(1, 2)),
-            ];
-            for message in &all {
+            for message in &message_cases::one_of_each(rng, n) {
                 let mut out = vec![0xAB; 1300];
                 let length = messages::write(message, n, &mut out).unwrap();
                 assert!(out[length..].iter().all(|b| *b == 0xAB));
@@ -554,14 +547,6 @@ struct Style {
     crash_once_in: u64,
     bad_once_in: u64,
     steps: u32,
-}
-
-fn random_sheet(rng: &mut Rng) -> Sheet {
-    let mut sheet = [0; 8];
-    for i in 0..8 {
-        sheet[i] = rng.word();
-    }
-    sheet
 }
 
 fn random_call(rng: &mut Rng, n: u32, style: &Style, table: &[u32]) -> Call {

@@ -1,13 +1,21 @@
 // A static library with the C interface, on the simulator. It stands in for
-// the real one, to build and try capi.rs and interleavings.rs.
+// the real ones, to build and try capi.rs, interleavings.rs and halves.rs.
 #![allow(dead_code)]
 
 mod board;
 mod c_sim;
+mod calls;
+mod calls_sim;
+mod flat;
 mod messages;
+mod stub_calls;
 
-unsafe fn lent<'a>(words: *mut u32, how_many: usize) -> &'a mut [u32] {
-    std::slice::from_raw_parts_mut(words, how_many)
+unsafe fn lent<'a, T>(start: *mut T, how_many: usize) -> &'a mut [T] {
+    std::slice::from_raw_parts_mut(start, how_many)
+}
+
+unsafe fn given<'a, T>(start: *const T, how_many: usize) -> &'a [T] {
+    std::slice::from_raw_parts(start, how_many)
 }
 
 #[no_mangle]
@@ -22,8 +30,7 @@ pub unsafe extern "C" fn concur_board_open(table: *mut u32, words: usize, n: u32
 
 #[no_mangle]
 pub unsafe extern "C" fn concur_board_begin(table: *mut u32, words: usize, member: u32, slot: u32, op_type: u32, value: *const u32, value_words: usize) -> u32 {
-    let value = std::slice::from_raw_parts(value, value_words);
-    c_sim::begin(lent(table, words), member, slot, op_type, value)
+    c_sim::begin(lent(table, words), member, slot, op_type, given(value, value_words))
 }
 
 #[no_mangle]
@@ -38,5 +45,5 @@ pub unsafe extern "C" fn concur_board_crash(table: *mut u32, words: usize, membe
 
 #[no_mangle]
 pub unsafe extern "C" fn concur_message_check(bytes: *const u8, length: usize, n: u32) -> u32 {
-    messages::check(std::slice::from_raw_parts(bytes, length), n)
+    messages::check(given(bytes, length), n)
 }
