@@ -18,6 +18,7 @@ use Rattle.model.specs.TableCalls.{openNumber, openWords}
 use Rattle.laws.proofs.Blocks.{member-zero}
 use Rattle.laws.proofs.Tables.{members-same, host-room}
 use Rattle.board.specs.Needs.{Table, Left}
+use Rattle.board.proofs.Places.{table-positive}
 use Rattle.board.proofs.Lent.{part, back, HostLent, host-table, host-changed, left-words}
 
 zero-members : (n : ℕ) → membersOf n (λ i. 0) ≡ (λ i. idle)
@@ -28,52 +29,49 @@ pub idle-members : (n : ℕ) (w : ℕ → ℕ) → ((i : ℕ) → 1 ≤ i → i 
 unfolding boardOf hostAt from
 idle-members n w h = members-same n (from w blocksAt) (λ i. 0) (λ i p. h (blocksAt + i) (omega arith) (omega arith)) ∙ zero-members n
 
--- the words before the host cleared, and n written
-module _ (n : ℕ) (l : List ℕ) (low : 1 ≤ n) (high : n ≤ 12) (long : length l ≡ tableSize n) (host : ℕ) (begins : host ≡ hostAt n)
-    (m : List ℕ) (clear : m ≡ replaced l 0 (replicate host 0)) where
-  abbrev cleared : List ℕ
-  cleared = set m 0 n
-
-  room : 0 + length (replicate {A = ℕ} host 0) ≤ length l
-  room = simp length-replicate (omega (arith, host-room n))
-
-  pub cleared-long : length m ≡ length l
-  cleared-long = ap length clear ∙ length-replaced l 0 (replicate host 0) room
+-- words of the table changed to m, and n written
+module _ (n : ℕ) (l : List ℕ) (low : 1 ≤ n) (high : n ≤ 12) (long : length l ≡ tableSize n) (m : List ℕ) (kept : length m ≡ length l) where
+  abbrev sized : List ℕ
+  sized = set m 0 n
 
   pub some : 0 < length m
-  unfolding hostAt
-  some = omega (arith, cleared-long, host-room n)
+  some = omega (arith, table-positive n)
 
-  changed : words cleared ≡ put (pasted 0 (length (replicate {A = ℕ} host 0)) (words (replicate host 0)) (words l)) 0 n
-  changed = words-set m 0 n some ∙ ap (λ m. put (words m) 0 n) clear ∙ ap (λ w. put w 0 n) (words-replaced l 0 (replicate host 0) room)
+  changed : words sized ≡ put (words m) 0 n
+  changed = words-set m 0 n some
 
-  pub cleared-table : Table n cleared
-  cleared-table = record {
+  pub sized-table : Table n sized
+  sized-table = record {
     least = low;
     most = high;
-    long = length-set m 0 n ∙ cleared-long ∙ long;
-    size = ap (λ w. w 0) changed ∙ put-at (pasted 0 (length (replicate {A = ℕ} host 0)) (words (replicate host 0)) (words l)) 0 n;
+    long = length-set m 0 n ∙ kept ∙ long;
+    size = ap (λ w. w 0) changed ∙ put-at (words m) 0 n;
   }
 
-  zeros : (i : ℕ) → 1 ≤ i → i < hostAt n → words cleared i ≡ 0
-  zeros i p q =
-      ap (λ w. w i) changed
-      ∙ put-off (pasted 0 (length (replicate {A = ℕ} host 0)) (words (replicate host 0)) (words l)) 0 n i (λ e. omega arith)
-      ∙ pasted-in 0 (length (replicate {A = ℕ} host 0)) (words (replicate host 0)) (words l) i (omega arith) (rw length-replicate (omega (arith, begins)))
-      ∙ ap (λ w. w (i - 0)) (words-zeros host)
+  -- where those before the host's were cleared, the members are idle
+  module _ {host : ℕ} (begins : host ≡ hostAt n) (clear : m ≡ replaced l 0 (replicate host 0)) where
+    cleared : words m ≡ pasted 0 (length (replicate {A = ℕ} host 0)) (words (replicate host 0)) (words l)
+    cleared =
+        let room : 0 + length (replicate {A = ℕ} host 0) ≤ length l = simp length-replicate (omega (arith, host-room n)) in
+        ap words clear ∙ words-replaced l 0 (replicate host 0) room
 
-  cleared-members : boardOf n (words cleared) .members ≡ (λ i. idle)
-  cleared-members = idle-members n (words cleared) zeros
+    zeros : (i : ℕ) → 1 ≤ i → i < hostAt n → words sized i ≡ 0
+    zeros i p q =
+        ap (λ w. w i) changed
+        ∙ put-off (words m) 0 n i (λ e. omega arith)
+        ∙ ap (λ w. w i) cleared
+        ∙ pasted-in 0 (length (replicate {A = ℕ} host 0)) (words (replicate host 0)) (words l) i (omega arith) (rw length-replicate (omega (arith, begins)))
+        ∙ ap (λ w. w (i - 0)) (words-zeros host)
 
-  -- then the host's part opened
-  pub open-left : {hostWords : ℕ} (t : HostLent n cleared host hostWords) (p : List ℕ) (kept : length p ≡ length (part cleared host hostWords))
-      → hostOf n (words p) ≡ opened n .host → storedRecordsOf n (words p) ≡ opened n .stored
-      → Left n (opened n) (back cleared host hostWords p)
-  unfolding opened
-  open-left t p kept e f = record {
-    table = host-table t p kept;
-    board = host-changed t p kept ∙ (λ s. record { members = cleared-members s; host = e s; stored = f s });
-  }
+    -- then the host's part opened
+    pub open-left : {hostWords : ℕ} (t : HostLent n sized host hostWords) (p : List ℕ) (same : length p ≡ length (part sized host hostWords))
+        → hostOf n (words p) ≡ opened n .host → storedRecordsOf n (words p) ≡ opened n .stored
+        → Left n (opened n) (back sized host hostWords p)
+    unfolding opened
+    open-left t p same e f = record {
+      table = host-table t p same;
+      board = host-changed t p same ∙ (λ s. record { members = idle-members n (words sized) zeros s; host = e s; stored = f s });
+    }
 
 -- What opening answers and leaves.
 module _ (n : ℕ) (l : List ℕ) where

@@ -113,9 +113,8 @@ pub fn crash_on(table: &mut [u32], n: u32, member: u32) -> u32
     let at = block_at(n as usize, member as usize);
     let end = at + block_size(n as usize);
     let number = crash_refusal(&table[at..end], n, member);
-    if number != 0 {
-        return number;
+    if number == 0 {
+        mark_crashed(&mut table[at..end], n as usize);
     }
-    mark_crashed(&mut table[at..end], n as usize);
-    0
+    number
 }

@@ -15,7 +15,7 @@ use Rattle.lists.proofs.Functions.{on, by-place, put-at, put-off, pasted-in, pa
 use Rattle.lists.proofs.Parts.{words-set, length-replaced, words-replaced, replaced-by}
 use Rattle.model.specs.Script.{dash, digits, orDash, field, printedLine, boardLine, refusedLine}
 use Rattle.script.specs.Meaning.{given, Printed}
-use Rattle.script.proofs.Digits.{length-ten}
+use Rattle.script.proofs.Digits.{length-some, length-ten}
 
 -- one byte
 pub set-replaced : (l : List ℕ) (a v : ℕ) → a < length l → set l a v ≡ replaced l a (v ∷ [])
@@ -105,7 +105,12 @@ pub field-number : (has : Bool) (x end : ℕ) → not has ≡ false → field (g
 unfolding orDash
 field-number has x end h = rw (not-false has h)
 
--- How long a printed line is at most.
+-- How long a field is at least, and a printed line at most.
+
+pub field-long : (has : Bool) (x end : ℕ) → 2 ≤ length (field (given has x) end)
+unfolding orDash
+field-long false x end = omega arith
+field-long true x end = omega (arith, length-append (digits x) (end ∷ []), length-some x)
 
 dash-short : (has : Bool) (x : ℕ) → x < 4294967296 → length (orDash (given has x)) ≤ 10
 unfolding orDash

@@ -31,14 +31,14 @@ pub fn print_number(out: &mut [u8], at: usize, x: u32) -> usize
     ensures { λ r. ⌜ Printed (now (out .entry)) (now (out .exit)) at (digits x) r ⌝ }
 {
     let count = digit_count(x);
-    let mut last = at + count - 1;
+    let mut left = count;
     let mut rest = x;
     while 10 <= rest {
-        out[last] = last_digit(rest);
+        out[at + left - 1] = last_digit(rest);
         rest = rest / 10;
-        last -= 1;
+        left -= 1;
     }
-    out[last] = last_digit(rest);
+    out[at + left - 1] = last_digit(rest);
     at + count
 }
 

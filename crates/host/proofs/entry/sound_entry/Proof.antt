@@ -1,13 +1,22 @@
--- `sound_entry` meets its contract. Assumes nothing.
+-- `sound_entry` meets its contract: the mark, then the stored record, then the newest. Assumes nothing.
 use borrow.Author.Needs.{needs}
-use mathlib.Core.Path.{sym, _∙_}
+use Prim.Native.Nat.{ℕ}
+use mathlib.Core.Path.{_≡_}
+use mathlib.Core.Bool.{Bool, true, false}
+use mathlib.Core.List.{List}
 use native.Mathlib.Omega.{arith}
-use borrow.Author.Tests.{le-leb, lt-leb, not-true, not-false}
+use borrow.Author.Tests.{le-leb, lt-leb}
+use Rattle.lists.specs.Functions.{from}
 use Rattle.lists.specs.Parts.{words}
-use Rattle.model.specs.Table.{soundEntry, entryOf, storedOf}
+use Rattle.model.specs.RecordWords.{recordOf}
+use Rattle.model.specs.Table.{soundEntry, entryOf, storedOf, storedAt, soundRecord}
+use Rattle.laws.proofs.Tests.{refused, allowed}
 use Rattle.host.proofs.EntryWords.{sizes}
 use Rattle.host.proofs.entry.sound_entry.Statement.{statement}
 use Rattle.host.proofs.entry.sound_entry.Tie as tie
+
+abbrev stored-sound : ℕ → List ℕ → Bool
+stored-sound n entry = soundRecord n (recordOf n (from (words entry) storedAt))
 
 newest-at-requires : tie.Need-newest-at-requires
 newest-at-requires c κs = search needs
@@ -30,10 +39,8 @@ returns-2 : tie.Need-returns-2
 unfolding soundEntry entryOf storedOf
 returns-2 c =
     let a = c .before .before .before .before .before .before .args in
-    rw (
-      le-leb (words (a .entry .now) 0) (a .n) (c .before .before .if1 .left),
-      sym (c .before .sound-record .ensures) ∙ not-true _ (c .if2 .taken),
-    )
+    let bad : stored-sound (a .n) (a .entry .now) ≡ false = refused (c .before .sound-record .ensures) (c .if2 .taken) in
+    rw (le-leb (words (a .entry .now) 0) (a .n) (c .before .before .if1 .left), bad)
 
 sound-record-requires-2 : tie.Need-sound-record-requires-2
 sound-record-requires-2 c κs =
@@ -45,10 +52,9 @@ returns-3 : tie.Need-returns-3
 unfolding soundEntry entryOf storedOf
 returns-3 c =
     let a = c .before .before .before .before .before .before .before .args in
-    rw (
-      le-leb (words (a .entry .now) 0) (a .n) (c .before .before .before .if1 .left),
-      sym (c .before .before .sound-record .ensures) ∙ not-false _ (c .before .if2 .left),
-    ) (rw (c .before .before .before .before .before .newest-at .ensures) at (c .sound-record2 .ensures))
+    let good : stored-sound (a .n) (a .entry .now) ≡ true = allowed (c .before .before .sound-record .ensures) (c .before .if2 .left) in
+    rw (le-leb (words (a .entry .now) 0) (a .n) (c .before .before .before .if1 .left), good)
+    (rw (c .before .before .before .before .before .newest-at .ensures) at (c .sound-record2 .ensures))
 
 pub sound-entry-spec : {M : Type 1} → statement M
 sound-entry-spec =

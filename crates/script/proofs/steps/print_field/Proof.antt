@@ -1,23 +1,23 @@
 -- `print_field` meets its contract. Assumes nothing.
 use borrow.Author.Needs.{needs}
 use Prim.Native.Nat.{_+_, _≤_}
-use mathlib.Core.Path.{_≡_, ap}
+use mathlib.Core.Path.{_≡_}
 use mathlib.Core.List.{[], _∷_, _++_}
 use native.Mathlib.Omega.{arith}
 use lib.ListN.{length, set, length-set}
 use Rattle.model.specs.Script.{digits}
-use Rattle.script.proofs.Printing.{printed-one, room-first, room-then, printed-then, field-dash, field-number}
+use Rattle.script.proofs.Printing.{printed-one, room-first, room-then, printed-then, field-dash, field-number, field-long}
 use Rattle.script.proofs.steps.print_field.Statement.{statement}
 use Rattle.script.proofs.steps.print_field.Tie as tie
 
 slice-write-out : tie.Need-slice-write-out
-slice-write-out c = omega (arith, ap length (field-dash (c .before .before .args .has) (c .before .before .args .x) (c .before .before .args .end) (c .if1 .taken)))
+slice-write-out c = let a = c .before .before .args in omega (arith, field-long (a .has) (a .x) (a .end))
 
 add-out : tie.Need-add-out
 add-out c = search needs
 
 slice-write-out-2 : tie.Need-slice-write-out-2
-slice-write-out-2 c = simp length-set (omega (arith, ap length (field-dash (c .before .before .args .has) (c .before .before .args .x) (c .before .before .args .end) (c .if1 .taken))))
+slice-write-out-2 c = let a = c .before .before .args in simp length-set (omega (arith, field-long (a .has) (a .x) (a .end)))
 
 add-result : tie.Need-add-result
 add-result c = search needs
@@ -30,7 +30,7 @@ returns c =
     let a = c .before .before .args in
     let l = a .out .now in
     let e = field-dash (a .has) (a .x) (a .end) (c .if1 .taken) in
-    let fits : a .at + 2 ≤ length l = omega (arith, ap length e) in
+    let fits : a .at + 2 ≤ length l = omega (arith, field-long (a .has) (a .x) (a .end)) in
     let next : a .at + 2 ≡ a .at + 1 + 1 = omega arith in
     rw (e, next) (printed-then (printed-one l (a .at) 45 (omega arith)) (a .end ∷ []) fits (printed-one (set l (a .at) 45) (a .at + 1) (a .end) (rw length-set (omega arith))))
 

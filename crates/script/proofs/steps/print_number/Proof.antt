@@ -1,6 +1,6 @@
 -- `print_number` meets its contract: with the digits that are left printed in front, all are. Assumes nothing.
 use borrow.Author.Needs.{needs}
-use Prim.Native.Nat.{_+_, _/_, _%_, _<_}
+use Prim.Native.Nat.{_+_, _-_, _/_, _%_, _≤_, _<_}
 use mathlib.Core.Path.{_≡_, refl, sym, ap, _∙_}
 use native.Mathlib.Omega.{arith}
 use lib.ListN.{length, set, length-set}
@@ -12,76 +12,81 @@ use Rattle.script.proofs.steps.print_number.Statement.{statement}
 use Rattle.script.proofs.steps.print_number.Tie as tie
 
 abbrev Inv-loop : tie.InvT-loop
-Inv-loop out₀ at x count last₀ rest₀ out last rest = (at + length (digits rest) ≡ last + 1) × ((last < length out₀) × ((length out ≡ length out₀) × (replaced out at (digits rest) ≡ replaced out₀ at (digits x))))
+Inv-loop out₀ at x count left₀ rest₀ out left rest =
+    (left ≡ length (digits rest)) × ((left ≤ count) × ((length out ≡ length out₀) × (replaced out at (digits rest) ≡ replaced out₀ at (digits x))))
 
 abbrev μ-loop : tie.MeasureT-loop
-μ-loop out₀ at x count last₀ rest₀ out last rest = rest
+μ-loop out₀ at x count left₀ rest₀ out left rest = rest
 
-digit-count-requires : tie.Need-digit-count-requires Inv-loop μ-loop
-digit-count-requires c κs = search needs
+-- What is known in each round, and after the last.
 
-add-last : tie.Need-add-last Inv-loop μ-loop
-add-last c = search needs
+room : (c : tie.At-loop Inv-loop μ-loop) → c .before .before .before .args .at + c .before .digit-count .result ≤ length (c .loop .out)
+room c = omega (arith, c .before .digit-count .ensures, c .loop .inv .1 .1 .0)
 
-sub-last : tie.Need-sub-last Inv-loop μ-loop
-sub-last c = omega (arith, c .digit-count .ensures, length-some (c .before .before .args .x))
+some : (c : tie.At-loop Inv-loop μ-loop) → 1 ≤ c .loop .left
+some c = omega (arith, length-some (c .loop .rest))
+
+fewer : (c : tie.In-loop Inv-loop μ-loop) → c .before .loop .left ≡ length (digits (c .before .loop .rest / 10)) + 1
+fewer c = c .before .loop .inv .0 ∙ length-more (c .before .loop .rest) (c .loop-test .taken)
+
+one : (c : tie.After-loop Inv-loop μ-loop) → c .before .loop .left ≡ 1
+one c = c .before .loop .inv .0 ∙ length-one (c .before .loop .rest) (c .loop-test .left)
+
+-- The needs.
 
 loop-holds : tie.Need-loop-holds Inv-loop μ-loop
-loop-holds c =
-    let s = length-some (c .before .before .args .x) in
-    let e = c .digit-count .ensures in (omega arith, (omega arith, (refl, refl)))
+loop-holds c = (c .digit-count .ensures, (omega arith, (refl, refl)))
 
-last-digit-requires : tie.Need-last-digit-requires Inv-loop μ-loop
-last-digit-requires c κs = search needs
+add-out : tie.Need-add-out Inv-loop μ-loop
+add-out c = omega (arith, room (c .before .before))
+
+sub-out : tie.Need-sub-out Inv-loop μ-loop
+sub-out c = omega (arith, some (c .before .before))
 
 slice-write-out : tie.Need-slice-write-out Inv-loop μ-loop
-slice-write-out c = search needs
+slice-write-out c = omega (arith, room (c .before .before), some (c .before .before))
 
-sub-last-2 : tie.Need-sub-last-2 Inv-loop μ-loop
-sub-last-2 c = omega (arith, length-more (c .before .before .loop .rest) (c .before .loop-test .taken), length-some (c .before .before .loop .rest / 10))
-
-loop-less : tie.Need-loop-less Inv-loop μ-loop
-loop-less c = search needs
+sub-left : tie.Need-sub-left Inv-loop μ-loop
+sub-left c = omega (arith, some (c .before .before))
 
 loop-again : tie.Need-loop-again Inv-loop μ-loop
 loop-again c =
     let a = c .before .before .before .before .before .args in
     let l = c .before .before .loop in
-    let n = length-more (l .rest) (c .before .loop-test .taken) in
-    let s = length-some (l .rest / 10) in
-    let e : l .last ≡ a .at + length (digits (l .rest / 10)) = omega arith in (
+    let d = digits (l .rest / 10) in
+    let f = fewer (c .before) in
+    let r = room (c .before .before) in
+    let e : a .at + l .left - 1 ≡ a .at + length d = omega arith in (
       omega arith,
       (
         omega arith,
         (
-          length-set (l .out) (l .last) (c .last-digit .result) ∙ l .inv .1 .1 .0,
-          ap (λ k. replaced (set (l .out) k (c .last-digit .result)) (a .at) (digits (l .rest / 10))) e
-              ∙ ap (λ v. replaced (set (l .out) (a .at + length (digits (l .rest / 10))) v) (a .at) (digits (l .rest / 10))) (c .last-digit .ensures)
-              ∙ replaced-front (l .out) (a .at) (digits (l .rest / 10)) (digitZero + l .rest % 10) (omega arith)
+          length-set (l .out) _ (c .last-digit .result) ∙ l .inv .1 .1 .0,
+          ap (λ k. replaced (set (l .out) k (c .last-digit .result)) (a .at) d) e
+              ∙ ap (λ v. replaced (set (l .out) (a .at + length d) v) (a .at) d) (c .last-digit .ensures)
+              ∙ replaced-front (l .out) (a .at) d (digitZero + l .rest % 10) (omega arith)
               ∙ ap (replaced (l .out) (a .at)) (sym (digits-more (l .rest) (c .before .loop-test .taken)))
               ∙ l .inv .1 .1 .1,
         ),
       ),
     )
 
-last-digit-requires-2 : tie.Need-last-digit-requires-2 Inv-loop μ-loop
-last-digit-requires-2 c κs = search needs
+add-out-2 : tie.Need-add-out-2 Inv-loop μ-loop
+add-out-2 c = omega (arith, room (c .before .before))
+
+sub-out-2 : tie.Need-sub-out-2 Inv-loop μ-loop
+sub-out-2 c = omega (arith, some (c .before .before))
 
 slice-write-out-2 : tie.Need-slice-write-out-2 Inv-loop μ-loop
-slice-write-out-2 c = search needs
-
-add-result : tie.Need-add-result Inv-loop μ-loop
-add-result c = search needs
-
-same-length : tie.Need-same-length Inv-loop μ-loop
-same-length c = search needs
+slice-write-out-2 c = omega (arith, room (c .before .before), some (c .before .before))
 
 returns : tie.Need-returns Inv-loop μ-loop
 returns c =
     let a = c .before .before .before .before .before .args in
     let l = c .before .before .loop in
-    let n = length-one (l .rest) (c .before .loop-test .left) in
-    let e : l .last ≡ a .at = omega arith in record {
+    let o = one (c .before) in
+    let r = room (c .before .before) in
+    let e : a .at + l .left - 1 ≡ a .at = omega arith in record {
       behind = ap (λ k. a .at + k) (c .before .before .before .digit-count .ensures);
       bytes =
           ap (λ k. set (l .out) k (c .last-digit2 .result)) e
@@ -97,17 +102,19 @@ print-number-spec =
     (tie.spec
     Inv-loop
     μ-loop
-    digit-count-requires
-    add-last
-    sub-last
+    (λ c κs. search needs)
     loop-holds
-    last-digit-requires
+    (λ c κs. search needs)
+    add-out
+    sub-out
     slice-write-out
-    sub-last-2
-    loop-less
+    sub-left
+    (λ c. search needs)
     loop-again
-    last-digit-requires-2
+    (λ c κs. search needs)
+    add-out-2
+    sub-out-2
     slice-write-out-2
-    add-result
-    same-length
+    (λ c. search needs)
+    (λ c. search needs)
     returns)
