@@ -93,7 +93,8 @@ pub record Case (kind : ℕ) (bytes : List ℕ) : Type 0 where
 pub record RoundTrip : Type 0 where
   -- "a message written reads back as itself": every message by value that the writer takes, on every board, to every output
   pub back : (n : ℕ) (f : Fields) (out : List ℕ) → smallFields n f ≡ true → numberWritten n f out ≡ 0 → ReadBack n f out
-  -- "accepted bytes written again are the same bytes": all bytes that the reader takes, to every output with room for them
+  -- "accepted bytes written again are the same bytes": all bytes that the reader takes, to every output with room for them. That they are
+  -- bytes is what `&[u8]` says of a slice.
   pub again : (n : ℕ) (l out : List ℕ) → Bytes l → readNumber n l ≡ 0 → length l ≤ length out → WrittenAgain n l out
   -- of what the reader gives the board has every part: written and read again, it is itself word for word
   pub whole : (n : ℕ) (l : List ℕ) → fieldsWithin n (fieldsRead n l) ≡ fieldsRead n l
