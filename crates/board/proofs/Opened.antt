@@ -60,11 +60,13 @@ module _ (n : ℕ) (l : List ℕ) (low : 1 ≤ n) (high : n ≤ 12) (long : leng
         ap (λ w. w i) changed
         ∙ put-off (words m) 0 n i (λ e. omega arith)
         ∙ ap (λ w. w i) cleared
-        ∙ pasted-in 0 (length (replicate {A = ℕ} host 0)) (words (replicate host 0)) (words l) i (omega arith) (rw length-replicate (omega (arith, begins)))
+        ∙ pasted-in 0 (length (replicate {A = ℕ} host 0)) (words (replicate host 0)) (words l) i (omega arith)
+        (rw length-replicate (omega (arith, begins)))
         ∙ ap (λ w. w (i - 0)) (words-zeros host)
 
     -- then the host's part opened
-    pub open-left : {hostWords : ℕ} (t : HostLent n sized host hostWords) (p : List ℕ) (same : length p ≡ length (part sized host hostWords))
+    pub open-left : {hostWords : ℕ} (t : HostLent n sized host hostWords) (p : List ℕ)
+        (same : length p ≡ length (part sized host hostWords))
         → hostOf n (words p) ≡ opened n .host → storedRecordsOf n (words p) ≡ opened n .stored
         → Left n (opened n) (back sized host hostWords p)
     unfolding opened

@@ -13,7 +13,8 @@ use Rattle.script.proofs.steps.print_number.Tie as tie
 
 abbrev Inv-loop : tie.InvT-loop
 Inv-loop out₀ at x count left₀ rest₀ out left rest =
-    (left ≡ length (digits rest)) × ((left ≤ count) × ((length out ≡ length out₀) × (replaced out at (digits rest) ≡ replaced out₀ at (digits x))))
+    (left ≡ length (digits rest))
+    × ((left ≤ count) × ((length out ≡ length out₀) × (replaced out at (digits rest) ≡ replaced out₀ at (digits x))))
 
 abbrev μ-loop : tie.MeasureT-loop
 μ-loop out₀ at x count left₀ rest₀ out left rest = rest
