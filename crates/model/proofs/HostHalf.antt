@@ -31,6 +31,7 @@ use Rattle.model.specs.Published.{
   line58,
   line59,
   line59noted,
+  line512,
   line512writes,
   line513,
   received,
@@ -59,6 +60,7 @@ use Rattle.model.specs.HostClaims.{
   sampleAnswers,
   HalfAsPublished,
   HalfDiffers,
+  WritesAsPrinted,
   SampleHolds,
 }
 
@@ -424,3 +426,12 @@ half-differs kind n op f =
       resubmittedServer = rw (at, same-self (idOf op));
       resubmittedHalf = rw (at, p, member, count);
     }
+
+-- the slot of a write that fits is its member's
+pub writes-as-printed : (kind : Kind) (n : ℕ) (op : Rec) → fits kind n (idOf op) ≡ true → WritesAsPrinted op
+unfolding line512 line512writes idOf barred
+writes-as-printed kind n op f = record {
+  stores = λ w s. on (eqb (op .member) (op .slot))
+      (λ e. rw (w, eqb-true (op .member) (op .slot) e))
+      (λ e. let z : true ≡ false = rw (w, e) at (fit-parts kind n (idOf op) f .3) in absurd (apart refl z));
+}

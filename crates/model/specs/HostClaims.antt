@@ -29,6 +29,7 @@ use Rattle.model.specs.Published.{
   line56,
   line58,
   line59noted,
+  line512,
   line512writes,
   line513,
   serverAnswers,
@@ -151,6 +152,10 @@ pub record HalfDiffers (kind : Kind) (n : ℕ) (op : Rec) : Type 0 where
       ≡ submitR (opening (op .slot)) (opening (op .slot)) ∷ submitR (opening (op .slot)) (opening (op .slot)) ∷ commitR false ∷ []
   pub resubmittedHalf : halfAnswers kind (halfOpened n) (resubmitted op)
       ≡ submitR (opening (op .slot)) (opening (op .slot)) ∷ submitR (opening (op .slot)) (opening (op .slot)) ∷ commitR true ∷ []
+
+-- The difference at 5.12 is of reads alone: a write that fits is stored by document 01's line as by the printed one.
+pub record WritesAsPrinted (op : Rec) : Type 0 where
+  pub stores : op .operation ≡ write → (s : Server) → line512writes op s ≡ line512 op s
 
 -- A stream in which the premises hold, with its answers written out: on slot 1 of two, member 2's read overtakes member 1's write, which
 -- is aborted; the read is accepted; member 1 writes again, and member 2 reads what it wrote.
