@@ -5,7 +5,7 @@ ghost use Prim.Native.Nat.{_+_, _≤_};
 ghost use lib.ListN.{length, take};
 ghost use Rattle.messages.specs.Meaning.{fieldsIn};
 ghost use Rattle.records.specs.Meaning.{recordIn};
-ghost use Rattle.test_calls.specs.Handed.{recordFrom, pairDue, pairWords, fieldsDue, fieldsFrom, fieldWords};
+ghost use Rattle.test_calls.specs.Handed.{recordDue, recordFrom, pairDue, pairWords, fieldsDue, fieldsFrom, fieldWords};
 use messages::Message;
 use records::Record;
 use records::steps::load_record;
@@ -23,8 +23,9 @@ const NEWEST_AT: usize = 6;
 
 const STORED_AT: usize = 162;
 
+// The record in the words from `at` on.
 pub fn load_at(t: &[u32], at: usize) -> Record
-    requires { ⌜ (at ≤ 162) × (at + 156 ≤ length (now t)) ⌝ }
+    requires { ⌜ at + recordDue ≤ length (now t) ⌝ }
     ensures { λ r. ⌜ recordIn r ≡ recordFrom (now (t .entry)) at ⌝ }
 {
     load_record(t, at, 12)
@@ -32,13 +33,14 @@ pub fn load_at(t: &[u32], at: usize) -> Record
 
 // The newest and the stored record to the words from `at` on, which are the last ones.
 pub fn store_pair(t: &mut [u32], at: usize, newest: Record, stored: Record)
-    requires { ⌜ (at ≤ 6) × (length (now t) ≡ at + pairDue) ⌝ }
+    requires { ⌜ length (now t) ≡ at + pairDue ⌝ }
     ensures { λ _. ⌜ now (t .exit) ≡ take at (now (t .entry)) ++ pairWords (recordIn newest) (recordIn stored) ⌝ }
 {
     store_record(t, at, 12, newest);
     store_record(t, at + RECORD_WORDS, 12, stored);
 }
 
+// The message that the fields say.
 pub fn load_fields(t: &[u32]) -> Message
     requires { ⌜ length (now t) ≡ fieldsDue ⌝ }
     ensures { λ r. ⌜ fieldsIn r ≡ fieldsFrom (now (t .entry)) ⌝ }
@@ -58,6 +60,7 @@ pub fn load_fields(t: &[u32]) -> Message
     }
 }
 
+// The fields of a message.
 pub fn store_fields(t: &mut [u32], message: Message)
     requires { ⌜ length (now t) ≡ fieldsDue ⌝ }
     ensures { λ _. ⌜ now (t .exit) ≡ fieldWords (fieldsIn message) ⌝ }

@@ -1,7 +1,7 @@
 -- `concur_call_host_commit` meets its contract: two lengths are judged, then the half is called with the record, and its outcome stored.
 use borrow.Author.Needs.{needs}
 use native.Mathlib.Omega.{arith}
-use mathlib.Core.Path.{_≡_, ap, _∙_}
+use mathlib.Core.Path.{ap, _∙_}
 use mathlib.Core.List.{[], _∷_}
 use Rattle.model.specs.Kinds.{concur}
 use Rattle.model.specs.Halves.{commitNumber, commitWords, commitOutcome}
@@ -19,8 +19,8 @@ loaded c = c .before .before
 abbrev fits : tie.After-load-at → tie.Else2
 fits c = c .before
 
-abbrev start : tie.Else2 → tie.Start
-start c = c .before .before .before .before .before
+abbrev start : tie.Else1 → tie.Start
+start c = c .before .before .before .before
 
 returns : tie.Need-returns
 returns c =
@@ -34,7 +34,7 @@ returns-2 c =
     (refuses-second _ _ _ _ e ne _ _, (refuses-second _ _ _ _ e ne _ _, refuses-second _ _ _ _ e ne _ _))
 
 load-at-requires : tie.Need-load-at-requires
-load-at-requires c κs = (omega arith, omega (arith, c .before .if1 .left))
+load-at-requires c κs = omega (arith, c .before .if1 .left)
 
 returns-3 : tie.Need-returns-3
 returns-3 c =
@@ -42,7 +42,7 @@ returns-3 c =
     let both = fits (loaded k) in
     let p = both .before .if1 .left in
     let q = both .if2 .left in
-    let a = start both .args in
+    let a = start (both .before) .args in
     let l = a .entries .now in
     let e = given (a .n) (a .committed .now) 0 (loaded k .load-at .ensures) in
     let done = k .take-commit .ensures in (

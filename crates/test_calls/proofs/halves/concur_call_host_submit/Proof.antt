@@ -1,7 +1,7 @@
 -- `concur_call_host_submit` meets its contract: the length of the records is judged, then the half is called and its reply stored.
 use borrow.Author.Needs.{needs}
 use native.Mathlib.Omega.{arith}
-use mathlib.Core.Path.{_≡_, _∙_}
+use mathlib.Core.Path.{_∙_}
 use Rattle.test_calls.proofs.Laws.{refuses, calls, replied}
 use Rattle.test_calls.proofs.halves.concur_call_host_submit.Statement.{statement}
 use Rattle.test_calls.proofs.halves.concur_call_host_submit.Tie as tie
@@ -22,7 +22,7 @@ returns : tie.Need-returns
 returns c = let ne = c .if1 .taken in (refuses _ _ ne _ _, (refuses _ _ ne _ _, refuses _ _ ne _ _))
 
 store-pair-requires : tie.Need-store-pair-requires
-store-pair-requires c κs = (omega arith, omega (arith, fits (took c) .if1 .left))
+store-pair-requires c κs = omega (arith, fits (took c) .if1 .left)
 
 returns-2 : tie.Need-returns-2
 returns-2 c =

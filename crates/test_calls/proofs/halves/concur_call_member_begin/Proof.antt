@@ -1,7 +1,7 @@
 -- `concur_call_member_begin` meets its contract: the length of the value is judged, then the half is called with it.
 use borrow.Author.Needs.{needs}
 use native.Mathlib.Omega.{arith}
-use mathlib.Core.Path.{_≡_, ap, _∙_}
+use mathlib.Core.Path.{ap, _∙_}
 use Rattle.lists.specs.Parts.{words}
 use Rattle.lists.proofs.Functions.{from-zero}
 use Rattle.model.specs.Kinds.{concur}

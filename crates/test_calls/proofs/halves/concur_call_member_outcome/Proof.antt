@@ -1,6 +1,6 @@
 -- `concur_call_member_outcome` meets its contract: one length is judged, then the half is called and what it returns handed out.
 use borrow.Author.Needs.{needs}
-use mathlib.Core.Path.{_≡_, _∙_}
+use mathlib.Core.Path.{_∙_}
 use Rattle.board.proofs.Beside.{handed}
 use Rattle.test_calls.proofs.Laws.{refuses, calls}
 use Rattle.test_calls.proofs.halves.concur_call_member_outcome.Statement.{statement}
@@ -9,8 +9,8 @@ use Rattle.test_calls.proofs.halves.concur_call_member_outcome.Tie as t
 abbrev out : tie.After-slice-known4 → tie.After-hand-out
 out c = c .before .before
 
-abbrev took : tie.After-hand-out-arg → tie.After-take-outcome
-took c = c .before .before .before .before
+abbrev took : tie.After-value → tie.After-take-outcome
+took c = c .before .before .before
 
 abbrev fits : tie.After-take-outcome → tie.Else1
 fits c = c .before .before
@@ -19,11 +19,11 @@ returns : tie.Need-returns
 returns c = let ne = c .if1 .taken in (refuses _ _ ne _ _, (refuses _ _ ne _ _, refuses _ _ ne _ _))
 
 hand-out-requires : tie.Need-hand-out-requires
-hand-out-requires c κs = fits (took c) .if1 .left
+hand-out-requires c κs = fits (took (c .before)) .if1 .left
 
 returns-2 : tie.Need-returns-2
 returns-2 c =
-    let k = took (out c .before) in
+    let k = took (out c .before .before) in
     let e = fits k .if1 .left in
     let done = k .take-outcome .ensures in (
       calls _ _ e _ _ (done .0),

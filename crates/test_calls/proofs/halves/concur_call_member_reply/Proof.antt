@@ -1,7 +1,7 @@
 -- `concur_call_member_reply` meets its contract: the length of the records is judged, then the half is called with both.
 use borrow.Author.Needs.{needs}
 use native.Mathlib.Omega.{arith}
-use mathlib.Core.Path.{_≡_, _∙_}
+use mathlib.Core.Path.{_∙_}
 use Rattle.model.specs.Kinds.{concur}
 use Rattle.model.specs.Halves.{replyNumber, replyWords}
 use Rattle.test_calls.proofs.Laws.{refuses, calls, given}
@@ -24,10 +24,10 @@ returns : tie.Need-returns
 returns c = let ne = c .if1 .taken in (refuses _ _ ne _ _, refuses _ _ ne _ _)
 
 load-at-requires : tie.Need-load-at-requires
-load-at-requires c κs = (omega arith, omega (arith, c .if1 .left))
+load-at-requires c κs = omega (arith, c .if1 .left)
 
 load-at-requires-2 : tie.Need-load-at-requires-2
-load-at-requires-2 c κs = (omega arith, omega (arith, c .before .if1 .left))
+load-at-requires-2 c κs = omega (arith, c .before .if1 .left)
 
 returns-2 : tie.Need-returns-2
 returns-2 c =

@@ -1,9 +1,9 @@
 -- `hand_out` meets its contract: the flag stored, then the value after it.
 use borrow.Author.Needs.{needs}
 use native.Mathlib.Omega.{arith}
-use mathlib.Core.Path.{_≡_, ap, _∙_}
+use mathlib.Core.Path.{ap, _∙_}
 use mathlib.Core.List.{_∷_}
-use lib.ListN.{length, length-set}
+use lib.ListN.{length-set}
 use Rattle.lists.specs.Parts.{words, listed}
 use Rattle.model.specs.RecordWords.{valueOf}
 use Rattle.model.specs.Table.{valueSize}

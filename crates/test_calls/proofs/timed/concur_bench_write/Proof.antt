@@ -4,7 +4,6 @@ use Prim.Native.Nat.{ℕ, _-_}
 use mathlib.Core.Path.{_≡_, refl, sym, ap, _∙_}
 use mathlib.Core.List.{List, _++_}
 use mathlib.Core.Option.{Option, none, some}
-use native.Mathlib.Omega.{arith}
 use lib.ListN.{length, drop}
 use lib.Seq.{drop-at}
 use Rattle.model.specs.Messages.{Message, encode, writeNumber, writable, writtenTo}
@@ -35,10 +34,13 @@ Inv-loop bytes n out₀ more message written i₀ out i = out ≡ out₀
 abbrev μ-loop : tie.MeasureT-loop
 μ-loop bytes n out₀ more message written i₀ out i = more - i
 
--- Places: a round's end, the loop's head, and what came before the loop.
+-- Places: the round's writing, the loop's head, and what came before the loop.
 
-abbrev head : tie.After-slice-known3 Inv-loop μ-loop → tie.At-loop Inv-loop μ-loop
-head c = c .before .before .before .before .before
+abbrev wrote-again : tie.After-slice-known3 Inv-loop μ-loop → tie.After-write2 Inv-loop μ-loop
+wrote-again c = c .before .before
+
+abbrev head : tie.After-write2 Inv-loop μ-loop → tie.At-loop Inv-loop μ-loop
+head c = c .before .before .before
 
 abbrev wrote : tie.At-loop Inv-loop μ-loop → tie.After-write Inv-loop μ-loop
 wrote c = c .before .before .before
@@ -51,11 +53,12 @@ start c = c .before .before .before
 
 loop-again : tie.Need-loop-again Inv-loop μ-loop
 loop-again c =
-    let w = wrote (head c) in
+    let k = wrote-again c in
+    let w = wrote (head k) in
     let r = was-read w in
     let a = start r .args in
     again (a .n) (messageOf (fieldsIn (r .read .result))) (a .out .now) _ _ _
-    (w .write .kept .1 .1 .0) (w .write .ensures .1 .1) (head c .loop .inv) (c .before .before .write2 .ensures .1 .1)
+    (w .write .kept .1 .1 .0) (w .write .ensures .1 .1) (head k .loop .inv) (k .write2 .ensures .1 .1)
 
 same-length : tie.Need-same-length Inv-loop μ-loop
 same-length c = ap length (c .before .loop .inv) ∙ wrote (c .before) .write .kept .1 .1 .0

@@ -1,9 +1,8 @@
 -- `concur_call_write` meets its contract: two lengths are judged, then the message that the fields say is written.
 use borrow.Author.Needs.{needs}
 use native.Mathlib.Omega.{arith}
-use mathlib.Core.Path.{_≡_, ap, _∙_}
-use mathlib.Core.List.{List, [], _∷_}
-use Prim.Native.Nat.{ℕ}
+use mathlib.Core.Path.{ap, _∙_}
+use mathlib.Core.List.{[], _∷_}
 use lib.ListN.{length}
 use Rattle.model.specs.Messages.{writeNumber, writable, writtenLength, writtenTo}
 use Rattle.messages.specs.Meaning.{fieldsIn, messageOf}
@@ -23,8 +22,8 @@ loaded c = c .before .before
 abbrev fits : tie.After-load-fields → tie.Else2
 fits c = c .before
 
-abbrev start : tie.Else2 → tie.Start
-start c = c .before .before .before .before .before
+abbrev start : tie.Else1 → tie.Start
+start c = c .before .before .before .before
 
 returns : tie.Need-returns
 returns c =
@@ -40,7 +39,7 @@ returns-2 c =
 cast-written : tie.Need-cast-written
 cast-written c =
     let w = wrote c in
-    let a = start (fits (loaded w)) .args in
+    let a = start (fits (loaded w) .before) .args in
     let m = messageOf (fieldsIn (loaded w .load-fields .result)) in
     omega (arith, w .write .ensures .1 .0, written-small (a .n) m (length (a .out .now)))
 
@@ -51,7 +50,7 @@ returns-3 c =
     let both = fits (loaded w) in
     let p = both .before .if1 .left in
     let q = both .if2 .left in
-    let a = start both .args in
+    let a = start (both .before) .args in
     let out = a .out .now in
     let m = ap messageOf (loaded w .load-fields .ensures) in
     let number = w .write .ensures .0 ∙ ap (λ m. writeNumber (a .n) m (length out)) m in

@@ -37,8 +37,8 @@ pub load-fields-spec : {M : Type 1} → statement M
 load-fields-spec =
     tie.close
     (tie.spec
-    (λ c κs. (omega arith, omega arith))
-    (λ c κs. (omega arith, omega arith))
+    (λ c κs. omega arith)
+    (λ c κs. omega arith)
     (λ c. omega arith)
     (λ c. omega arith)
     (λ c. omega arith)

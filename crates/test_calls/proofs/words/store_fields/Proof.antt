@@ -13,7 +13,7 @@ abbrev start : tie.After-store-pair → tie.Start
 start c = c .before .before .before
 
 store-pair-requires : tie.Need-store-pair-requires
-store-pair-requires c κs = (omega arith, simp length-set (omega (arith, c .before .before .pre)))
+store-pair-requires c κs = simp length-set (omega (arith, c .before .before .pre))
 
 same-length : tie.Need-same-length
 same-length c = stored c .store-pair .kept .0 ∙ simp length-set

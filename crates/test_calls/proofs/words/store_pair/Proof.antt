@@ -41,7 +41,7 @@ returns c =
     let a = start one .args in
     both c .store-record2 .ensures
     ∙ ap (λ l. replaced l (a .at + recordDue) (recordWords 12 (recordIn (a .stored)))) (one .store-record .ensures)
-    ∙ pair-stored (a .t .now) (a .at) (recordIn (a .newest)) (recordIn (a .stored)) (start one .pre .1)
+    ∙ pair-stored (a .t .now) (a .at) (recordIn (a .newest)) (recordIn (a .stored)) (start one .pre)
 
 pub store-pair-spec : {M : Type 1} → statement M
 store-pair-spec =
