@@ -1,9 +1,7 @@
 // The C interface: include/concur.h. A value stands in a slice of 8 words; what a deliver returns is written to one of 9.
 ghost use mathlib.Core.Path.{_≡_};
-ghost use mathlib.Core.Bool.{cond};
-ghost use mathlib.Core.List.{_∷_};
 ghost use lib.ListN.{length};
-ghost use Rattle.lists.specs.Parts.{words, listed};
+ghost use Rattle.lists.specs.Parts.{words};
 ghost use Rattle.model.specs.Kinds.{concur};
 ghost use Rattle.model.specs.RecordWords.{valueOf};
 ghost use Rattle.model.specs.Runs.{begin as beginCall, deliver as deliverCall, crash as crashCall};
@@ -15,10 +13,10 @@ use crate::calls::deliver_on;
 use crate::check::table_number;
 use crate::crash;
 use crate::open;
+use crate::steps::hand_out;
 use crate::steps::table_size;
 use records::is_numbered;
 use records::steps::load_value;
-use records::steps::store_value;
 
 #[no_mangle]
 pub extern "C" fn concur_board_words(n: u32) -> u32
@@ -58,25 +56,6 @@ pub extern "C" fn concur_board_begin(
     }
     let n = table[0];
     begin_on(table, n, member, slot, operation, load_value(value, 0))
-}
-
-// 1 where a value is returned.
-fn flag(given: bool) -> u32
-    ensures { λ r. ⌜ r ≡ cond given 1 0 ⌝ }
-{
-    if given {
-        return 1;
-    }
-    0
-}
-
-// What was returned, written to nine words.
-fn hand_out(returned: &mut [u32], given: bool, value: [u32; 8])
-    requires { ⌜ length (now returned) ≡ returnedSize ⌝ }
-    ensures { λ _. ⌜ now (returned .exit) ≡ cond given 1 0 ∷ listed valueSize (valueOf (words value)) ⌝ }
-{
-    returned[0] = flag(given);
-    store_value(returned, 1, value);
 }
 
 #[no_mangle]

@@ -1,13 +1,20 @@
-// What the board program asks beside its calls: the size of a table, and a phase in one.
+// What is asked beside the calls: the size of a table, a phase in one, and a returned value as C takes it.
 ghost use mathlib.Core.Path.{_≡_};
+ghost use mathlib.Core.Bool.{cond};
+ghost use mathlib.Core.List.{_∷_};
 ghost use Prim.Native.Nat.{_≤_};
-ghost use Rattle.model.specs.Table.{tableSize};
+ghost use lib.ListN.{length};
+ghost use Rattle.lists.specs.Parts.{words, listed};
+ghost use Rattle.model.specs.RecordWords.{valueOf};
+ghost use Rattle.model.specs.Table.{tableSize, valueSize};
 ghost use Rattle.model.specs.TableCalls.{phaseWords};
 ghost use Rattle.checks.specs.Needs.{Within};
+ghost use Rattle.board.specs.Interface.{returnedSize};
 ghost use Rattle.board.specs.Needs.{Table};
 use crate::layout::block_at;
 use crate::layout::host_at;
 use host::steps::host_size;
+use records::steps::store_value;
 
 // How many words the table of a board of n has.
 pub fn table_size(n: usize) -> usize
@@ -24,4 +31,23 @@ pub fn phase(table: &[u32], n: u32, member: u32) -> u32
 {
     let at = block_at(n as usize, member as usize);
     table[at]
+}
+
+// 1 where a value is returned.
+fn flag(given: bool) -> u32
+    ensures { λ r. ⌜ r ≡ cond given 1 0 ⌝ }
+{
+    if given {
+        return 1;
+    }
+    0
+}
+
+// What was returned, written to nine words.
+pub fn hand_out(returned: &mut [u32], given: bool, value: [u32; 8])
+    requires { ⌜ length (now returned) ≡ returnedSize ⌝ }
+    ensures { λ _. ⌜ now (returned .exit) ≡ cond given 1 0 ∷ listed valueSize (valueOf (words value)) ⌝ }
+{
+    returned[0] = flag(given);
+    store_value(returned, 1, value);
 }

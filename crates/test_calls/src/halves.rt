@@ -1,9 +1,7 @@
 // The member half's four calls, on a block, and the host half's two, on the host entries.
 ghost use mathlib.Core.Path.{_≡_};
-ghost use mathlib.Core.Bool.{cond};
 ghost use mathlib.Core.List.{[], _∷_};
-ghost use lib.ListN.{length};
-ghost use Rattle.lists.specs.Parts.{words, listed};
+ghost use Rattle.lists.specs.Parts.{words};
 ghost use Rattle.model.specs.Kinds.{concur};
 ghost use Rattle.model.specs.RecordWords.{valueOf};
 ghost use Rattle.model.specs.Table.{valueSize};
@@ -17,6 +15,7 @@ use crate::words::PAIR_WORDS;
 use crate::words::RECORD_WORDS;
 use crate::words::load_at;
 use crate::words::store_pair;
+use board::steps::hand_out;
 use host::take_commit;
 use host::take_submit;
 use member::begin;
@@ -24,7 +23,6 @@ use member::crash;
 use member::take_outcome;
 use member::take_reply;
 use records::steps::load_value;
-use records::steps::store_value;
 
 #[no_mangle]
 pub extern "C" fn concur_call_member_begin(
@@ -72,25 +70,6 @@ pub extern "C" fn concur_call_member_reply(
     let newest = load_at(records, 0);
     let stored = load_at(records, RECORD_WORDS);
     take_reply(block, n, member, newest, stored, seals)
-}
-
-// 1 where a value is returned.
-fn flag(given: bool) -> u32
-    ensures { λ r. ⌜ r ≡ cond given 1 0 ⌝ }
-{
-    if given {
-        return 1;
-    }
-    0
-}
-
-// What was returned, written to nine words.
-fn hand_out(returned: &mut [u32], given: bool, value: [u32; 8])
-    requires { ⌜ length (now returned) ≡ returnedSize ⌝ }
-    ensures { λ _. ⌜ now (returned .exit) ≡ cond given 1 0 ∷ listed valueSize (valueOf (words value)) ⌝ }
-{
-    returned[0] = flag(given);
-    store_value(returned, 1, value);
 }
 
 #[no_mangle]

@@ -7,9 +7,9 @@ use lib.ListN.{length-set}
 use Rattle.lists.specs.Parts.{words, listed}
 use Rattle.model.specs.RecordWords.{valueOf}
 use Rattle.model.specs.Table.{valueSize}
 use Rattle.board.proofs.Beside.{handed-words}
-use Rattle.test_calls.proofs.halves.hand_out.Statement.{statement}
-use Rattle.test_calls.proofs.halves.hand_out.Tie as tie
+use Rattle.board.proofs.steps.hand_out.Statement.{statement}
+use Rattle.board.proofs.steps.hand_out.Tie as tie
 
 abbrev stored : tie.After-slice-known2 → tie.After-store-value
 stored c = c .before .before
