@@ -135,11 +135,12 @@ p6 = record {
   claims = contendedClaims ++ (
       decided is ((2 ∷ 3 ∷ read ∷ 0 ∷ 2 ∷ 4 ∷ 8 ∷ 1 ∷ 0 ∷ []) ∷ (1 ∷ 3 ∷ read ∷ 0 ∷ 1 ∷ 3 ∷ 7 ∷ 0 ∷ 0 ∷ []) ∷ [])
       ∷ submits is (pair 4 3 ∷ pair 3 3 ∷ [])
+      ∷ running 3 is ((0 ∷ 0 ∷ 0 ∷ 0 ∷ 0 ∷ 0 ∷ []) ∷ [])
       ∷ []
       );
 }
 
--- the four operations of P7, as they stand after it: 1's aborted read, 2's read, 2's write, 1's read
+-- the four operations of P7, the newest first: 1's read, 2's write, 2's read, 1's aborted read
 abbrev pub operations : List (List ℕ)
 operations =
     (1 ∷ 2 ∷ read ∷ 0 ∷ 16 ∷ 17 ∷ 19 ∷ 1 ∷ 20 ∷ 5 ∷ [])
