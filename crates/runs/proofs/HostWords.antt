@@ -13,6 +13,7 @@ use Rattle.lists.specs.Parts.{words}
 use Rattle.lists.proofs.Functions.{on, both, apart, put-same, put-all, put-both, each-all, inside-in, inside-high, within-off, within-same}
 use Rattle.lists.proofs.Pieces.{pieces-laid}
 use Rattle.model.specs.Records.{Rec, read, write, zeroRecord, recordWithin}
+use Rattle.model.specs.RecordWords.{recordWords}
 use Rattle.model.specs.Kinds.{Kind, isOperation, barred, becomesStored}
 use Rattle.model.specs.Host.{Entry, submitted, wins, entryAfter, storedAfter}
 use Rattle.model.specs.Board.{noEntry}
@@ -48,7 +49,7 @@ use Rattle.model.specs.HostClaims.{
   sample,
 }
 use Rattle.model.proofs.HostHalf.{fit-parts, half-as-published, sample-holds}
-use Rattle.laws.proofs.Records.{recordOf-words, within-zeroRecord}
+use Rattle.laws.proofs.Records.{recordOf-words, within-read, within-zeroRecord}
 use Rattle.laws.proofs.Blocks.{entry-same, stored-same, length-entry, entry-read, stored-read}
 use Rattle.laws.proofs.Tables.{length-host}
 use Rattle.laws.proofs.Sound.{record-sound, SoundSlot, entry-sound}
@@ -236,6 +237,12 @@ words-as-published kind n size messages v =
     let fit = taken-fit kind n messages in
     let same = same-answers kind n size messages v (halfOpened n) (opened-kept kind n) in
     record { noted = p .noted fit ∙ same; printed = λ once. p .printed fit once ∙ same }
+
+-- the contract of the half's commit hands every record on so: what is cut to a board of n is cut once and for all
+pub commit-held : (n : ℕ) (r : Rec) → MessageHeld n (commit (recordWithin n r))
+commit-held n r =
+    let e = recordOf-words n r in
+    ap (recordWithin n) (sym e) ∙ within-read n (words (recordWords n r)) ∙ e
 
 -- The sample.
 

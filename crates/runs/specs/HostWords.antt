@@ -56,7 +56,7 @@ taken kind n (message ∷ messages) =
     cond (fits kind n (idIn message)) (message ∷ []) [] ++ taken kind n messages
 
 -- a record as a message of n members has it: nothing beyond its n rows of n counts and its 8 words. The contract of the half's commit
--- has every record so.
+-- hands every record on so (`commit-held`, proofs/HostWords.antt).
 abbrev pub MessageHeld : ℕ → ToServer → Type 0
 MessageHeld n (submit id) = Unit {0}
 MessageHeld n (commit op) = recordWithin n op ≡ op
