@@ -11,6 +11,7 @@ pub mod HistoryLists
 pub mod Phases
 pub mod PositionsInvariant
 pub mod PositionsSteps
+pub mod PositionsTurns
 pub mod Positions
 pub mod HistoryParts
 pub mod HistorySteps

@@ -22,6 +22,7 @@ use Rattle.model.proofs.HistorySteps.{watch-verdict}
 use Rattle.model.proofs.Phases.{Next, submitted, answered, judged, ended as completes, Moves, StepMoves, RunMoves, verdict-high}
 use Rattle.model.proofs.PositionsInvariant.{Moved, stays, begins, submits, replies, judges, ends, moved-steps, Places, Found, runs}
 use Rattle.model.proofs.PositionsInvariant.{decided, PlacedIn, Taken}
+use Rattle.model.proofs.PositionsTurns.{Turns, turns-after}
 use Rattle.model.proofs.PositionsSteps.{ended-found, placed-after, places-after, submits-after}
 
 -- A step of a run is one of the moves, and has its place.
@@ -205,6 +206,10 @@ places-nothing look = record {
   waiting = λ i l. absurd (omega arith);
 }
 
+turns-nothing : Turns (λ i. 0) nothingYet
+unfolding nothingYet
+turns-nothing = record { inTurn = tt; running = λ i l n. tt; resting = λ i e. tt }
+
 pub positions-of : (calls : List Call) (seen : List Seen) → RunMoves (λ i. 0) calls seen → Positions calls seen (watched calls seen)
 unfolding watched nothingYet
 positions-of calls seen m =
@@ -213,10 +218,12 @@ positions-of calls seen m =
     let first = places-nothing look in
     let l = run-left look (λ p w. Every (Taken p w) (w .submits)) (λ p q w x. submits-after)
     (λ i. 0) nothingYet first tt calls seen ahead m in
+    let turns = run-left look Turns (λ p q w x. turns-after) (λ i. 0) nothingYet first turns-nothing calls seen ahead m in
     let w = watchFrom nothingYet calls seen in
     record {
       running = λ i. l .places .running i .placed;
       decided = every (λ o h. h .0) (w .decided) (l .places .decided);
+      inTurn = turns .kept .inTurn;
       submits = every (λ s t. record { member = t .member; operation = found-known look (t .found) }) (w .submits) (l .kept);
       complete = all-placed look (λ i. 0) nothingYet first 1 refl calls seen ahead m;
     }

@@ -60,6 +60,16 @@ pub record Decided (at : ℕ → Option Step) (o : Op) : Type 0 where
   pub last : 0 < o .endAt → o .verdictAt < o .endAt
   pub unended : o .endAt ≡ 0 → o .returned ≡ none
 
+-- A member's operations come one after the other. Of two that have reached their verdict, p the older: its verdict came first, and if both
+-- are of one member, it had ended before the other began.
+abbrev pub After : Op → Op → Type 0
+After o p = (p .verdictAt < o .verdictAt) × (p .given .member ≡ o .given .member → (0 < p .endAt) × (p .endAt < o .beginAt))
+
+-- the newest first
+abbrev pub InTurn : List Op → Type 0
+InTurn [] = Unit {0}
+InTurn (o ∷ older) = Every (After o) older × InTurn older
+
 -- an operation of member i of which P holds, with its verdict or without
 abbrev pub Known : Watch → ℕ → (Op → Type 0) → Type 0
 Known w i P = P (w .running i) ⊎ Some (λ o. (o .given .member ≡ i) × P o) (w .decided)
@@ -89,5 +99,6 @@ AllPlaced w at (call ∷ calls) (s ∷ seen) = (s .answer ≡ 0 → Placed w at 
 pub record Positions (calls : List Call) (seen : List Seen) (w : Watch) : Type 0 where
   pub running : (i : ℕ) → Begun (stepAt calls seen) i (w .running i)
   pub decided : Every (Decided (stepAt calls seen)) (w .decided)
+  pub inTurn : InTurn (w .decided)
   pub submits : Every (Submitted w) (w .submits)
   pub complete : AllPlaced w 1 calls seen
