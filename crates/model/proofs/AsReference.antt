@@ -19,13 +19,16 @@ use Rattle.model.specs.Board.{Board, noEntry, openingEntry, opened, with
 use Rattle.model.specs.Board.{outcomeTaken, boardDelivered, boardReturned}
 use Rattle.model.specs.Runs.{Call, begin, deliver, crash, Seen, answerOf, done, doneReturns, after, seenAt, run, boards}
 use Rattle.model.specs.ReplyChecks.{CheckedAt, Checked}
-use Rattle.model.specs.Reference.{RefMember, Reference, refIdle, refOpened, refWith, refMoved, refSubmit, refReply, refCommit, refAbort}
-use Rattle.model.specs.Reference.{refAccept, refEnd, refReturned, refDelivered, refAnswer, refDone, refDoneReturns, refAfter, refSeen, refRun}
+use Rattle.model.specs.Reference.{RefMember, Reference, refIdle, refOpened, refWith, refMoved, refSubmit, refReply, refCommit}
+use Rattle.model.specs.Reference.{refAbort}
+use Rattle.model.specs.Reference.{refAccept, refEnd, refReturned, refDelivered, refAnswer, refDone, refDoneReturns, refAfter}
+use Rattle.model.specs.Reference.{refSeen, refRun}
 use Rattle.model.proofs.Answers.{BeginTaken, begin-taken, deliver-taken, by-phase}
 use Rattle.model.proofs.Order.{_≼_, Ordered, up, ≼-refl}
 use Rattle.model.proofs.Invariant.{marked, SlotInv, MemberInv, Inv}
 use Rattle.model.proofs.Phases.{Delivers, StepMoves, step-moves, from-two}
-use Rattle.model.proofs.InvariantMember.{checks-pass, begin-keeps, reply-keeps, abort-keeps, completed-keeps, dropped-keeps, crash-keeps}
+use Rattle.model.proofs.InvariantMember.{checks-pass, begin-keeps, reply-keeps, abort-keeps, completed-keeps, dropped-keeps}
+use Rattle.model.proofs.InvariantMember.{crash-keeps}
 use Rattle.model.proofs.InvariantHost.{submit-keeps, accept-keeps}
 
 -- The opening.
@@ -201,5 +204,6 @@ module _ (kind : Kind) where
 pub as-reference : (kind : Kind) (n : ℕ) (calls : List Call) → run kind n (opened n) calls ≡ refRun kind n refOpened calls
 as-reference kind n calls = run-as-reference kind (opened-inv n) calls
 
-pub replies-checked : (kind : Kind) (n : ℕ) (calls : List Call) → Checked n calls (boards kind n (opened n) calls) (run kind n (opened n) calls)
+pub replies-checked : (kind : Kind) (n : ℕ) (calls : List Call)
+    → Checked n calls (boards kind n (opened n) calls) (run kind n (opened n) calls)
 replies-checked kind n calls = run-checked kind (opened-inv n) calls

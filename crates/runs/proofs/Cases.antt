@@ -16,29 +16,36 @@ use Rattle.model.specs.Rows.{zeroRow, zeroMatrix, below, matrixBelow, comparabl
 use Rattle.model.specs.Records.{zeroValue, zeroRecord, opening}
 use Rattle.model.specs.Kinds.{isOperation, barred, becomesStored}
 use Rattle.model.specs.Numbers.{beginAnswer, deliverAnswer, crashAnswer}
-use Rattle.model.specs.Member.{idle, begun, answered, check21, check22, check23, check24, check25, check26, check27, haltNumber, joined, ownRecord, passed, failed, replied, judged, completed, tookOver, dropped, outcome, returnedBy, crashedOf}
+use Rattle.model.specs.Member.{idle, begun, answered, check21, check22, check23, check24, check25, check26, check27, haltNumber, joined}
+use Rattle.model.specs.Member.{ownRecord, passed, failed, replied, judged, completed, tookOver, dropped, outcome, returnedBy, crashedOf}
 use Rattle.model.specs.Host.{submitted, wins, entryAfter, storedAfter}
-use Rattle.model.specs.Board.{openingEntry, opened, withMember, boardBegun, submitTaken, replyTaken, sentRecord, commitTaken, outcomeTaken, boardDelivered, boardReturned, boardCrashed}
+use Rattle.model.specs.Board.{openingEntry, opened, withMember, boardBegun, submitTaken, replyTaken, sentRecord, commitTaken}
+use Rattle.model.specs.Board.{outcomeTaken, boardDelivered, boardReturned, boardCrashed}
 use Rattle.model.specs.Runs.{answerOf, done, doneReturns, after, seenAt, run}
 use Rattle.lists.specs.Every.{Every}
-use Rattle.model.specs.History.{nothingYet, begunOp, submittedOp, decidedOp, endedOp, ended, watchDeliver, watchCall, watchStep, watchFrom, watched}
+use Rattle.model.specs.History.{nothingYet, begunOp, submittedOp, decidedOp, endedOp, ended, watchDeliver, watchCall, watchStep}
+use Rattle.model.specs.History.{watchFrom, watched}
 use Rattle.model.specs.RecordWords.{recordSize, matrixWord, recordWords}
-use Rattle.model.specs.Table.{acceptedAt, lastAt, pendingAt, knownAt, firstAt, secondAt, blockSize, newestAt, entrySize, hostSize, hostAt, tableSize, memberWords, entryWords, hostWords, tableWords}
+use Rattle.model.specs.Table.{acceptedAt, lastAt, pendingAt, knownAt, firstAt, secondAt, blockSize, newestAt, entrySize, hostSize}
+use Rattle.model.specs.Table.{hostAt, tableSize, memberWords, entryWords, hostWords, tableWords}
 use Rattle.model.specs.TableCalls.{openNumber, openWords}
 use Rattle.model.specs.Messages.{kindOf, numberBytes, byteIn, headed, recordByte, recordLength, recordBytes, fieldBytes, framed, encode}
 use Rattle.model.specs.Script.{caller}
-use Rattle.runs.specs.Case.{left, changed, opensOf, answerTo, lastWord, line, printed, rowsOf, recordLine, recordLines, begunLine, decidedLine, submitLine, unless, failingOf, takingOf, found, every, alike, Case, Holds, holds}
+use Rattle.runs.specs.Case.{left, changed, opensOf, answerTo, lastWord, line, printed, rowsOf, recordLine, recordLines, begunLine}
+use Rattle.runs.specs.Case.{decidedLine, submitLine, unless, failingOf, takingOf, found, every, alike, Case, Holds, holds}
 use Rattle.runs.specs.Cases.{cases, example}
 
 pub all-pass : every holds cases ≡ true
-unfolding put from within inside each tabulate zeroRow zeroMatrix below matrixBelow comparable larger zeroValue zeroRecord opening isOperation
-    barred becomesStored beginAnswer deliverAnswer crashAnswer idle begun answered check21 check22 check23 check24 check25 check26
-    check27 haltNumber joined ownRecord passed failed replied judged completed tookOver dropped outcome returnedBy crashedOf submitted wins
-    entryAfter storedAfter openingEntry opened withMember boardBegun submitTaken replyTaken sentRecord commitTaken outcomeTaken
-    boardDelivered boardReturned boardCrashed answerOf done doneReturns after seenAt run left caller lastWord line printed rowsOf
-    recordLine recordLines begunLine decidedLine submitLine nothingYet begunOp submittedOp decidedOp endedOp ended watchDeliver watchCall
-    watchStep watchFrom watched unless failingOf takingOf changed opensOf answerTo openNumber openWords tableWords memberWords entryWords hostWords laid tableSize hostAt hostSize blockSize entrySize newestAt secondAt firstAt knownAt pendingAt lastAt acceptedAt recordSize matrixWord recordWords kindOf numberBytes byteIn headed recordByte recordLength recordBytes
-    fieldBytes framed encode found every alike holds
+unfolding put from within inside each tabulate zeroRow zeroMatrix below matrixBelow comparable larger zeroValue zeroRecord opening
+    isOperation barred becomesStored beginAnswer deliverAnswer crashAnswer idle begun answered check21 check22 check23 check24
+    check25 check26 check27 haltNumber joined ownRecord passed failed replied judged completed tookOver dropped outcome returnedBy
+    crashedOf submitted wins entryAfter storedAfter openingEntry opened withMember boardBegun submitTaken replyTaken sentRecord
+    commitTaken outcomeTaken boardDelivered boardReturned boardCrashed answerOf done doneReturns after seenAt run left caller
+    lastWord line printed rowsOf recordLine recordLines begunLine decidedLine submitLine nothingYet begunOp submittedOp decidedOp
+    endedOp ended watchDeliver watchCall watchStep watchFrom watched unless failingOf takingOf changed opensOf answerTo openNumber
+    openWords tableWords memberWords entryWords hostWords laid tableSize hostAt hostSize blockSize entrySize newestAt secondAt
+    firstAt knownAt pendingAt lastAt acceptedAt recordSize matrixWord recordWords kindOf numberBytes byteIn headed recordByte
+    recordLength recordBytes fieldBytes framed encode found every alike holds
 all-pass = refl
 
 module _ {A : Type 0} where

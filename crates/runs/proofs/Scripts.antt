@@ -13,7 +13,8 @@ use Rattle.model.specs.Runs.{Call}
 use Rattle.lists.specs.Every.{Every}
 use Rattle.model.specs.Table.{tableSize, tableWords}
 use Rattle.model.specs.TableCalls.{openNumber, openWords, tableSeen, tableRun}
-use Rattle.model.specs.Script.{Line, writes, reads, delivers, crashes, malformed, lineOf, callOf, stepped, stepLine, stepsPrinted, boardPrinted, linesPrinted, linesOf, firstOf, mostSteps, scriptOutput}
+use Rattle.model.specs.Script.{Line, writes, reads, delivers, crashes, malformed, lineOf, callOf, stepped, stepLine, stepsPrinted}
+use Rattle.model.specs.Script.{boardPrinted, linesPrinted, linesOf, firstOf, mostSteps, scriptOutput}
 use Rattle.laws.proofs.Tables.{length-table}
 use Rattle.runs.specs.Scripts.{withCall, callsOf, seenPrinted, seenBehind, linesSeen, StepsRun, ScriptRun}
 use Rattle.runs.proofs.Held.{CallHeld}

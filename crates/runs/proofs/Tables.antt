@@ -19,7 +19,8 @@ use Rattle.model.specs.Runs.{Call, begin, deliver, crash, Seen, answerOf, done,
 use Rattle.lists.specs.Every.{Every}
 use Rattle.model.specs.Demand3.{Demand3}
 use Rattle.model.specs.Table.{tableSize, blockAt, phaseAt, memberOf, boardOf, tableWords, tableNumber, soundBoard}
-use Rattle.model.specs.TableCalls.{openNumber, openWords, boardIn, tableAnswer, tableAfter, tableReturns, phaseWords, tableSeen, tableRun, tableBoards}
+use Rattle.model.specs.TableCalls.{openNumber, openWords, boardIn, tableAnswer, tableAfter, tableReturns, phaseWords, tableSeen}
+use Rattle.model.specs.TableCalls.{tableRun, tableBoards}
 use Rattle.model.proofs.Demand3.{demand3}
 use Rattle.laws.proofs.Tables.{length-table, table-zero, member-at}
 use Rattle.laws.proofs.Sound.{SoundBoard, board-sound}

@@ -18,9 +18,10 @@ use Rattle.lists.specs.Every.{Every}
 use Rattle.model.specs.RecordWords.{valueOf}
 use Rattle.model.specs.Table.{tableWords}
 use Rattle.model.specs.TableCalls.{openNumber, openWords, boardIn, tableAfter, tableRun}
-use Rattle.runs.specs.Case.{Case, Claim, Question, left, answerTo, found, Holds, tableLeft, foundInWords, HoldsInWords, writes, reads, delivers, wholeWrite, wholeRead}
+use Rattle.runs.specs.Case.{Case, Claim, Question, left, answerTo, found, Holds, tableLeft, foundInWords, HoldsInWords, writes}
+use Rattle.runs.specs.Case.{reads, delivers, wholeWrite, wholeRead}
 use Rattle.runs.specs.Cases.{p1, p6, p7, p9, p11, p12, refusals, seals, unsealed, alone, mended, contended}
-use Rattle.runs.specs.Cases.{crashedSubmit, crashedOvertakes, readsNotStored, ownReadsNotStored, plain, crashes, falses, fromOpening}
+use Rattle.runs.specs.Cases.{crashedAborted, crashedSubmit, crashedOvertakes, readsNotStored, ownReadsNotStored, plain, crashes, falses, fromOpening}
 use Rattle.runs.proofs.Cases.{every-case}
 use Rattle.laws.proofs.Sound.{SoundBoard}
 use Rattle.runs.proofs.Sound.{opened-sound}
@@ -142,6 +143,10 @@ crashed-overtakes = (
   ),
 )
 
+crashed-aborted : Every CallHeld (crashedAborted .calls)
+crashed-aborted = join contended (deliver 1 ∷ crash 1 ∷ deliver 1 ∷ deliver 2 ∷ deliver 2 ∷ []) contended-held
+    (tt, (tt, (tt, (tt, (tt, tt)))))
+
 reads-not-stored : Every CallHeld (readsNotStored .calls)
 reads-not-stored = join (wholeWrite 1 77) (wholeRead 2 1 ++ wholeRead 3 1 ++ wholeRead 2 1) (write-held 1 77)
     (join (wholeRead 2 1) (wholeRead 3 1 ++ wholeRead 2 1) (read-held 2 1)
@@ -183,7 +188,7 @@ plain-opened = (
 crashes-opened : Every Opened crashes
 crashes-opened = (
   (refl, (last-held 77, (tt, (tt, (tt, (tt, (tt, read-held 2 1))))))),
-  ((refl, join contended (deliver 1 ∷ crash 1 ∷ deliver 1 ∷ deliver 2 ∷ deliver 2 ∷ []) contended-held (tt, (tt, (tt, (tt, (tt, tt)))))), tt),
+  ((refl, crashed-aborted), tt),
 )
 
 false-opened : Every Opened falses
