@@ -21,7 +21,8 @@ use Rattle.model.specs.TableCalls.{openNumber, openWords, boardIn, tableAfter, 
 use Rattle.runs.specs.Case.{Case, Claim, Question, left, answerTo, found, Holds, tableLeft, foundInWords, HoldsInWords, writes}
 use Rattle.runs.specs.Case.{reads, delivers, wholeWrite, wholeRead}
 use Rattle.runs.specs.Cases.{p1, p6, p7, p9, p11, p12, refusals, seals, unsealed, alone, mended, contended}
-use Rattle.runs.specs.Cases.{crashedAborted, crashedSubmit, crashedOvertakes, readsNotStored, ownReadsNotStored, plain, crashes, falses, fromOpening}
+use Rattle.runs.specs.Cases.{crashedAborted, crashedSubmit, crashedOvertakes, readsNotStored, ownReadsNotStored}
+use Rattle.runs.specs.Cases.{plain, crashes, falses, fromOpening}
 use Rattle.runs.proofs.Cases.{every-case}
 use Rattle.laws.proofs.Sound.{SoundBoard}
 use Rattle.runs.proofs.Sound.{opened-sound}
