@@ -7,12 +7,6 @@ use Rattle.model.specs.RecordWords.{valueOf}
 use Rattle.board.proofs.begin.Statement.{statement}
 use Rattle.board.proofs.begin.Tie as tie
 
-table-number-requires : tie.Need-table-number-requires
-table-number-requires c κs = search needs
-
-same-length : tie.Need-same-length
-same-length c = search needs
-
 returns : tie.Need-returns
 returns c =
     let a = (c .before .before .before .before .args) in
@@ -28,9 +22,6 @@ slice-read-n c = some-words (c .before .before .before .before .before .args .ta
 begin-on-requires : tie.Need-begin-on-requires
 begin-on-requires c κs = good (c .before .before .before .before .before .before .args .table .now) (sym (c .before .before .before .table-number .ensures) ∙ c .before .before .if1 .left) .table
 
-same-length-2 : tie.Need-same-length-2
-same-length-2 c = search needs
-
 returns-2 : tie.Need-returns-2
 returns-2 c =
     let a = (c .before .before .before .before .before .before .before .before .before .args) in
@@ -45,10 +36,10 @@ pub begin-spec : {M : Type 1} → statement M
 begin-spec =
     tie.close
     (tie.spec
-    table-number-requires
-    same-length
+    (λ c κs. search needs)
+    (λ c. search needs)
     returns
     slice-read-n
     begin-on-requires
-    same-length-2
+    (λ c. search needs)
     returns-2)

@@ -5,15 +5,6 @@ use Rattle.board.proofs.Answers.{good, some-words, own-number, own-tabl
 use Rattle.board.proofs.deliver.Statement.{statement}
 use Rattle.board.proofs.deliver.Tie as tie
 
-table-number-requires : tie.Need-table-number-requires
-table-number-requires c κs = search needs
-
-nothing-requires : tie.Need-nothing-requires
-nothing-requires c κs = search needs
-
-same-length : tie.Need-same-length
-same-length c = search needs
-
 returns : tie.Need-returns
 returns c =
     let a = (c .before .before .before .before .before .args) in
@@ -30,9 +21,6 @@ slice-read-n c = some-words (c .before .before .before .before .before .args .ta
 deliver-on-requires : tie.Need-deliver-on-requires
 deliver-on-requires c κs = good (c .before .before .before .before .before .before .args .table .now) (sym (c .before .before .before .table-number .ensures) ∙ c .before .before .if1 .left)
 
-same-length-2 : tie.Need-same-length-2
-same-length-2 c = search needs
-
 returns-2 : tie.Need-returns-2
 returns-2 c =
     let a = (c .before .before .before .before .before .before .before .before .before .args) in
@@ -47,11 +35,11 @@ pub deliver-spec : {M : Type 1} → statement M
 deliver-spec =
     tie.close
     (tie.spec
-    table-number-requires
-    nothing-requires
-    same-length
+    (λ c κs. search needs)
+    (λ c κs. search needs)
+    (λ c. search needs)
     returns
     slice-read-n
     deliver-on-requires
-    same-length-2
+    (λ c. search needs)
     returns-2)

@@ -6,9 +6,6 @@ use Rattle.board.proofs.Opened.{size-refused, length-refused, opens}
 use Rattle.board.proofs.open.Statement.{statement}
 use Rattle.board.proofs.open.Tie as tie
 
-is-numbered-requires : tie.Need-is-numbered-requires
-is-numbered-requires c κs = search needs
-
 returns : tie.Need-returns
 returns c = size-refused (c .before .before .before .args .n) (c .before .before .before .args .table .now) (refused (c .before .is-numbered .ensures) (c .if1 .taken))
 
@@ -23,9 +20,6 @@ open-all-requires c κs =
     let p = allowed (c .before .before .before .before .is-numbered .ensures) (c .before .before .before .if1 .left) in
     (inside-low 12 _ p, (inside-high 12 _ p, c .before .if2 .left ∙ c .before .before .table-size .ensures .0))
 
-same-length : tie.Need-same-length
-same-length c = search needs
-
 returns-3 : tie.Need-returns-3
 returns-3 c = opens (c .before .before .before .before .before .before .before .before .before .args .n) (c .before .before .before .before .before .before .before .before .before .args .table .now) (allowed (c .before .before .before .before .before .before .before .is-numbered .ensures) (c .before .before .before .before .before .before .if1 .left)) (c .before .before .before .before .if2 .left ∙ c .before .before .before .before .before .table-size .ensures .0) (c .before .before .open-all .ensures)
 
@@ -33,10 +27,10 @@ pub open-spec : {M : Type 1} → statement M
 open-spec =
     tie.close
     (tie.spec
-    is-numbered-requires
+    (λ c κs. search needs)
     returns
     table-size-requires
     returns-2
     open-all-requires
-    same-length
+    (λ c. search needs)
     returns-3)

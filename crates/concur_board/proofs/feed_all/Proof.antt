@@ -22,41 +22,8 @@ Inv-loop table₀ kept₀ bytes out₀ progress₀ from₀ table kept out progre
 abbrev μ-loop : tie.MeasureT-loop
 μ-loop table₀ kept₀ bytes out₀ progress₀ from₀ table kept out progress from = length bytes - from
 
-loop-holds : tie.Need-loop-holds Inv-loop μ-loop
-loop-holds c = search needs
-
-sub-feed : tie.Need-sub-feed Inv-loop μ-loop
-sub-feed c = search needs
-
-part-feed-start : tie.Need-part-feed-start Inv-loop μ-loop
-part-feed-start c = search needs
-
-part-feed-end : tie.Need-part-feed-end Inv-loop μ-loop
-part-feed-end c = search needs
-
-feed-requires : tie.Need-feed-requires Inv-loop μ-loop
-feed-requires c κs = search needs
-
-slice-reshare-prefix-write-out : tie.Need-slice-reshare-prefix-write-out Inv-loop μ-loop
-slice-reshare-prefix-write-out c = search needs
-
 slice-aggregate-write-out : tie.Need-slice-aggregate-write-out Inv-loop μ-loop
 slice-aggregate-write-out c = sym (length-take-le (c .before .before .before .before .before .before .before .feed .result .written) (c .before .before .before .before .before .before .before .feed .last .1 .1 .1 .1 .0) (c .before .before .before .before .before .before .before .feed .ensures .0 .room))
-
-write-out-requires : tie.Need-write-out-requires Inv-loop μ-loop
-write-out-requires c κs = search needs
-
-same-length : tie.Need-same-length Inv-loop μ-loop
-same-length c = search needs
-
-same-length-2 : tie.Need-same-length-2 Inv-loop μ-loop
-same-length-2 c = search needs
-
-same-length-3 : tie.Need-same-length-3 Inv-loop μ-loop
-same-length-3 c = search needs
-
-returns : tie.Need-returns Inv-loop μ-loop
-returns c = search needs
 
 add-from : tie.Need-add-from Inv-loop μ-loop
 add-from c =
@@ -95,40 +62,28 @@ loop-again c =
       ),
     )
 
-same-length-4 : tie.Need-same-length-4 Inv-loop μ-loop
-same-length-4 c = search needs
-
-same-length-5 : tie.Need-same-length-5 Inv-loop μ-loop
-same-length-5 c = search needs
-
-same-length-6 : tie.Need-same-length-6 Inv-loop μ-loop
-same-length-6 c = search needs
-
-returns-2 : tie.Need-returns-2 Inv-loop μ-loop
-returns-2 c = search needs
-
 pub feed-all-spec : {M : Type 1} → statement M
 feed-all-spec =
     tie.close
     (tie.spec
     Inv-loop
     μ-loop
-    loop-holds
-    sub-feed
-    part-feed-start
-    part-feed-end
-    feed-requires
-    slice-reshare-prefix-write-out
+    (λ c. search needs)
+    (λ c. search needs)
+    (λ c. search needs)
+    (λ c. search needs)
+    (λ c κs. search needs)
+    (λ c. search needs)
     slice-aggregate-write-out
-    write-out-requires
-    same-length
-    same-length-2
-    same-length-3
-    returns
+    (λ c κs. search needs)
+    (λ c. search needs)
+    (λ c. search needs)
+    (λ c. search needs)
+    (λ c. search needs)
     add-from
     loop-less
     loop-again
-    same-length-4
-    same-length-5
-    same-length-6
-    returns-2)
+    (λ c. search needs)
+    (λ c. search needs)
+    (λ c. search needs)
+    (λ c. search needs))

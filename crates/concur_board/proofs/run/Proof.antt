@@ -25,12 +25,6 @@ loop-holds c =
 read-some-requires : tie.Need-read-some-requires Inv-loop μ-loop
 read-some-requires c κs = (c .before .before .before .before .before .loop .inv .0, c .before .before .before .before .before .loop .inv .1 .1 .1 .1 .1)
 
-sub-turns : tie.Need-sub-turns Inv-loop μ-loop
-sub-turns c = search needs
-
-loop-less : tie.Need-loop-less Inv-loop μ-loop
-loop-less c = search needs
-
 loop-again : tie.Need-loop-again Inv-loop μ-loop
 loop-again c =
     let i = c .before .before .before .before .before .before .before .before .before .before .before .before .before .before .before .before .before .loop .inv in
@@ -50,9 +44,6 @@ loop-again c =
         ),
       ),
     )
-
-loop-less-2 : tie.Need-loop-less-2 Inv-loop μ-loop
-loop-less-2 c = search needs
 
 loop-again-2 : tie.Need-loop-again-2 Inv-loop μ-loop
 loop-again-2 c =
@@ -77,29 +68,8 @@ loop-again-2 c =
 finish-requires : tie.Need-finish-requires Inv-loop μ-loop
 finish-requires c κs = (c .before .before .before .before .loop .inv .0, c .before .before .before .before .loop .inv .1 .1 .1 .1 .1)
 
-slice-reshare-prefix-write-out : tie.Need-slice-reshare-prefix-write-out Inv-loop μ-loop
-slice-reshare-prefix-write-out c = search needs
-
 slice-aggregate-write-out : tie.Need-slice-aggregate-write-out Inv-loop μ-loop
 slice-aggregate-write-out c = sym (length-take-le (c .before .before .before .before .before .finish .result) (c .before .before .before .before .before .finish .last .1 .1 .1 .0) (c .before .before .before .before .before .finish .ensures .0))
-
-write-out-requires : tie.Need-write-out-requires Inv-loop μ-loop
-write-out-requires c κs = search needs
-
-same-length : tie.Need-same-length Inv-loop μ-loop
-same-length c = search needs
-
-same-length-2 : tie.Need-same-length-2 Inv-loop μ-loop
-same-length-2 c = search needs
-
-same-length-3 : tie.Need-same-length-3 Inv-loop μ-loop
-same-length-3 c = search needs
-
-same-length-4 : tie.Need-same-length-4 Inv-loop μ-loop
-same-length-4 c = search needs
-
-returns : tie.Need-returns Inv-loop μ-loop
-returns c = search needs
 
 pub run-spec : {M : Type 1} → statement M
 run-spec =
@@ -109,17 +79,17 @@ run-spec =
     μ-loop
     loop-holds
     read-some-requires
-    sub-turns
-    loop-less
+    (λ c. search needs)
+    (λ c. search needs)
     loop-again
-    loop-less-2
+    (λ c. search needs)
     loop-again-2
     finish-requires
-    slice-reshare-prefix-write-out
+    (λ c. search needs)
     slice-aggregate-write-out
-    write-out-requires
-    same-length
-    same-length-2
-    same-length-3
-    same-length-4
-    returns)
+    (λ c κs. search needs)
+    (λ c. search needs)
+    (λ c. search needs)
+    (λ c. search needs)
+    (λ c. search needs)
+    (λ c. search needs))

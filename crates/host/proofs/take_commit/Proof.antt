@@ -9,12 +9,6 @@ use Rattle.host.proofs.Answers.{good-slot, commit-answers, commit-leave
 use Rattle.host.proofs.take_commit.Statement.{statement}
 use Rattle.host.proofs.take_commit.Tie as tie
 
-host-number-requires : tie.Need-host-number-requires
-host-number-requires c κs = search needs
-
-same-length : tie.Need-same-length
-same-length c = search needs
-
 returns : tie.Need-returns
 unfolding commitNumber commitOutcome commitWords recordWithin recordIn
 returns c =
@@ -26,9 +20,6 @@ commit-requires c κs =
     let a = c .before .before .before .before .before .args in
     let r = a .committed in
     good-slot (a .n) (a .entries .now) (r .member) (r .slot) (r .operation) (sym (c .before .before .host-number .ensures) ∙ c .before .if1 .left)
-
-same-length-2 : tie.Need-same-length-2
-same-length-2 c = search needs
 
 returns-2 : tie.Need-returns-2
 unfolding commitNumber recordWithin recordIn
@@ -43,9 +34,6 @@ returns-2 c =
         commit-leaves (a .n) (a .entries .now) (s .last .0) (s .kept .0) (recordWithin (a .n) r) zero (s .ensures .1 .0) (s .ensures .1 .1),
       ),
     )
-
-same-length-3 : tie.Need-same-length-3
-same-length-3 c = search needs
 
 returns-3 : tie.Need-returns-3
 unfolding commitNumber recordWithin recordIn
@@ -65,11 +53,11 @@ pub take-commit-spec : {M : Type 1} → statement M
 take-commit-spec =
     tie.close
     (tie.spec
-    host-number-requires
-    same-length
+    (λ c κs. search needs)
+    (λ c. search needs)
     returns
     commit-requires
-    same-length-2
+    (λ c. search needs)
     returns-2
-    same-length-3
+    (λ c. search needs)
     returns-3)

@@ -7,18 +7,6 @@ use Rattle.host.proofs.Answers.{good-slot, submit-leaves}
 use Rattle.host.proofs.take_submit.Statement.{statement}
 use Rattle.host.proofs.take_submit.Tie as tie
 
-host-number-requires : tie.Need-host-number-requires
-host-number-requires c κs = search needs
-
-zero-requires : tie.Need-zero-requires
-zero-requires c κs = search needs
-
-zero-requires-2 : tie.Need-zero-requires-2
-zero-requires-2 c κs = search needs
-
-same-length : tie.Need-same-length
-same-length c = search needs
-
 returns : tie.Need-returns
 unfolding submitWords
 returns c =
@@ -37,9 +25,6 @@ submit-requires : tie.Need-submit-requires
 submit-requires c κs =
     let a = c .before .before .before .before .before .args in
     good-slot (a .n) (a .entries .now) (a .member) (a .slot) (a .operation) (sym (c .before .before .host-number .ensures) ∙ c .before .if1 .left)
-
-same-length-2 : tie.Need-same-length-2
-same-length-2 c = search needs
 
 returns-2 : tie.Need-returns-2
 unfolding submitNewest submitStored
@@ -63,11 +48,11 @@ pub take-submit-spec : {M : Type 1} → statement M
 take-submit-spec =
     tie.close
     (tie.spec
-    host-number-requires
-    zero-requires
-    zero-requires-2
-    same-length
+    (λ c κs. search needs)
+    (λ c κs. search needs)
+    (λ c κs. search needs)
+    (λ c. search needs)
     returns
     submit-requires
-    same-length-2
+    (λ c. search needs)
     returns-2)

@@ -6,12 +6,6 @@ use Rattle.member.proofs.Refusals.{begin-good, unchanged, words-made}
 use Rattle.member.proofs.begin.Statement.{statement}
 use Rattle.member.proofs.begin.Tie as tie
 
-begin-number-requires : tie.Need-begin-number-requires
-begin-number-requires c κs = search needs
-
-same-length : tie.Need-same-length
-same-length c = search needs
-
 returns : tie.Need-returns
 unfolding memberBeginWords
 returns c = (c .before .begin-number .ensures, unchanged _ _ (c .before .begin-number .ensures) (c .if1 .taken))
@@ -20,9 +14,6 @@ begin-requires : tie.Need-begin-requires
 begin-requires c κs =
     let a = (c .before .before .before .before .before .args) in
     begin-good (a .n) (a .member) (a .block .now) (a .slot) (a .operation) (sym (c .before .before .begin-number .ensures) ∙ c .before .if1 .left)
-
-same-length-2 : tie.Need-same-length-2
-same-length-2 c = search needs
 
 returns-2 : tie.Need-returns-2
 unfolding memberBeginWords
@@ -34,4 +25,4 @@ returns-2 c =
 pub begin-spec : {M : Type 1} → statement M
 begin-spec =
     tie.close
-    (tie.spec begin-number-requires same-length returns begin-requires same-length-2 returns-2)
+    (tie.spec (λ c κs. search needs) (λ c. search needs) returns begin-requires (λ c. search needs) returns-2)

@@ -6,12 +6,6 @@ use Rattle.member.proofs.Refusals.{crash-good, unchanged, words-made}
 use Rattle.member.proofs.crash.Statement.{statement}
 use Rattle.member.proofs.crash.Tie as tie
 
-crash-number-requires : tie.Need-crash-number-requires
-crash-number-requires c κs = search needs
-
-same-length : tie.Need-same-length
-same-length c = search needs
-
 returns : tie.Need-returns
 unfolding memberCrashWords
 returns c = (c .before .crash-number .ensures, unchanged _ _ (c .before .crash-number .ensures) (c .if1 .taken))
@@ -20,9 +14,6 @@ mark-crashed-requires : tie.Need-mark-crashed-requires
 mark-crashed-requires c κs =
     let a = (c .before .before .before .before .before .args) in
     crash-good (a .n) (a .member) (a .block .now) (sym (c .before .before .crash-number .ensures) ∙ c .before .if1 .left)
-
-same-length-2 : tie.Need-same-length-2
-same-length-2 c = search needs
 
 returns-2 : tie.Need-returns-2
 unfolding memberCrashWords
@@ -35,9 +26,9 @@ pub crash-spec : {M : Type 1} → statement M
 crash-spec =
     tie.close
     (tie.spec
-    crash-number-requires
-    same-length
+    (λ c κs. search needs)
+    (λ c. search needs)
     returns
     mark-crashed-requires
-    same-length-2
+    (λ c. search needs)
     returns-2)

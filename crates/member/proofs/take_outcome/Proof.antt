@@ -8,12 +8,6 @@ use Rattle.member.proofs.Refusals.{outcome-good, unchanged, made, words
 use Rattle.member.proofs.take_outcome.Statement.{statement}
 use Rattle.member.proofs.take_outcome.Tie as tie
 
-outcome-number-requires : tie.Need-outcome-number-requires
-outcome-number-requires c κs = search needs
-
-same-length : tie.Need-same-length
-same-length c = search needs
-
 returns : tie.Need-returns
 unfolding outcomeReturns outcomeWords returnedIn
 returns c =
@@ -24,9 +18,6 @@ finish-requires : tie.Need-finish-requires
 finish-requires c κs =
     let a = (c .before .before .before .before .before .args) in
     outcome-good (a .n) (a .member) (a .block .now) (a .result) (sym (c .before .before .outcome-number .ensures) ∙ c .before .if1 .left)
-
-same-length-2 : tie.Need-same-length-2
-same-length-2 c = search needs
 
 returns-2 : tie.Need-returns-2
 unfolding outcomeReturns outcomeWords returnedIn
@@ -39,4 +30,4 @@ returns-2 c =
 pub take-outcome-spec : {M : Type 1} → statement M
 take-outcome-spec =
     tie.close
-    (tie.spec outcome-number-requires same-length returns finish-requires same-length-2 returns-2)
+    (tie.spec (λ c κs. search needs) (λ c. search needs) returns finish-requires (λ c. search needs) returns-2)

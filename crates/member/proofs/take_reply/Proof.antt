@@ -6,12 +6,6 @@ use Rattle.member.proofs.Refusals.{reply-good, unchanged, words-made}
 use Rattle.member.proofs.take_reply.Statement.{statement}
 use Rattle.member.proofs.take_reply.Tie as tie
 
-reply-number-requires : tie.Need-reply-number-requires
-reply-number-requires c κs = search needs
-
-same-length : tie.Need-same-length
-same-length c = search needs
-
 returns : tie.Need-returns
 unfolding replyWords
 returns c = (c .before .reply-number .ensures, unchanged _ _ (c .before .reply-number .ensures) (c .if1 .taken))
@@ -20,9 +14,6 @@ reply-requires : tie.Need-reply-requires
 reply-requires c κs =
     let a = (c .before .before .before .before .before .args) in
     reply-good (a .n) (a .member) (a .block .now) _ _ (a .seals) (sym (c .before .before .reply-number .ensures) ∙ c .before .if1 .left)
-
-same-length-2 : tie.Need-same-length-2
-same-length-2 c = search needs
 
 returns-2 : tie.Need-returns-2
 unfolding replyWords
@@ -34,4 +25,4 @@ returns-2 c =
 pub take-reply-spec : {M : Type 1} → statement M
 take-reply-spec =
     tie.close
-    (tie.spec reply-number-requires same-length returns reply-requires same-length-2 returns-2)
+    (tie.spec (λ c κs. search needs) (λ c. search needs) returns reply-requires (λ c. search needs) returns-2)

@@ -6,12 +6,6 @@ use Rattle.model.specs.Messages.{readNumber, decode}
 use Rattle.messages.proofs.read.Statement.{statement}
 use Rattle.messages.proofs.read.Tie as tie
 
-reader-number-requires : tie.Need-reader-number-requires
-reader-number-requires c κs = search needs
-
-refused-requires : tie.Need-refused-requires
-refused-requires c κs = search needs
-
 returns : tie.Need-returns
 unfolding decode
 returns c =
@@ -35,4 +29,4 @@ returns-2 c =
 pub read-spec : {M : Type 1} → statement M
 read-spec =
     tie.close
-    (tie.spec reader-number-requires refused-requires returns read-message-requires returns-2)
+    (tie.spec (λ c κs. search needs) (λ c κs. search needs) returns read-message-requires returns-2)

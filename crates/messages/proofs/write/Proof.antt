@@ -13,9 +13,6 @@ use Rattle.messages.proofs.Laws.{given-kind, given-length}
 use Rattle.messages.proofs.write.Statement.{statement}
 use Rattle.messages.proofs.write.Tie as tie
 
-writer-number-requires : tie.Need-writer-number-requires
-writer-number-requires c κs = search needs
-
 returns : tie.Need-returns
 unfolding writable writtenLength writtenTo
 returns c =
@@ -57,7 +54,7 @@ pub write-spec : {M : Type 1} → statement M
 write-spec =
     tie.close
     (tie.spec
-    writer-number-requires
+    (λ c κs. search needs)
     returns
     length-of-requires
     add-length

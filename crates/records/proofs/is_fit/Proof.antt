@@ -5,23 +5,14 @@ use borrow.Author.Needs.{needs}
 use Rattle.records.proofs.is_fit.Statement.{statement}
 use Rattle.records.proofs.is_fit.Tie as tie
 
-is-numbered-requires : tie.Need-is-numbered-requires
-is-numbered-requires c κs = search needs
-
 returns : tie.Need-returns
 returns c = rw (sym (c .before .is-numbered .ensures) ∙ not-true _ (c .if1 .taken))
-
-is-numbered-requires-2 : tie.Need-is-numbered-requires-2
-is-numbered-requires-2 c κs = search needs
 
 returns-2 : tie.Need-returns-2
 returns-2 c = rw (
   sym (c .before .before .before .is-numbered .ensures) ∙ not-false _ (c .before .before .if1 .left),
   sym (c .before .is-numbered2 .ensures) ∙ not-true _ (c .if2 .taken),
 )
-
-is-operation-requires : tie.Need-is-operation-requires
-is-operation-requires c κs = search needs
 
 returns-3 : tie.Need-returns-3
 returns-3 c = rw (
@@ -33,9 +24,9 @@ pub is-fit-spec : {M : Type 1} → statement M
 is-fit-spec =
     tie.close
     (tie.spec
-    is-numbered-requires
+    (λ c κs. search needs)
     returns
-    is-numbered-requires-2
+    (λ c κs. search needs)
     returns-2
-    is-operation-requires
+    (λ c κs. search needs)
     returns-3)

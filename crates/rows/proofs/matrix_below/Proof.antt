@@ -19,26 +19,8 @@ Inv-loop n a b last j₀ j = (j ≤ last) × ((last ≡ min n 12) × (each j (λ
 abbrev μ-loop : tie.MeasureT-loop
 μ-loop n a b last j₀ j = last - j
 
-entries-requires : tie.Need-entries-requires Inv-loop μ-loop
-entries-requires c κs = search needs
-
 loop-holds : tie.Need-loop-holds Inv-loop μ-loop
 loop-holds c = (search needs, (omega arith, each-none _))
-
-mul-below : tie.Need-mul-below Inv-loop μ-loop
-mul-below c = search needs
-
-array-copy-out-below : tie.Need-array-copy-out-below Inv-loop μ-loop
-array-copy-out-below c = search needs
-
-mul-below-2 : tie.Need-mul-below-2 Inv-loop μ-loop
-mul-below-2 c = search needs
-
-array-copy-out-below-2 : tie.Need-array-copy-out-below-2 Inv-loop μ-loop
-array-copy-out-below-2 c = search needs
-
-below-requires : tie.Need-below-requires Inv-loop μ-loop
-below-requires c κs = search needs
 
 returns : tie.Need-returns Inv-loop μ-loop
 returns c =
@@ -46,12 +28,6 @@ returns c =
     let l = c .before .before .before .before .before .loop in
     sym (rows-below-fails (a .t1) (a .t2) (min (a .n) 12) (l .j) (omega arith) (omega arith)
     (sym (c .before .below .ensures) ∙ not-true _ (c .if1 .taken)))
-
-add-j : tie.Need-add-j Inv-loop μ-loop
-add-j c = search needs
-
-loop-less : tie.Need-loop-less Inv-loop μ-loop
-loop-less c = search needs
 
 loop-again : tie.Need-loop-again Inv-loop μ-loop
 loop-again c =
@@ -78,15 +54,15 @@ matrix-below-spec =
     (tie.spec
     Inv-loop
     μ-loop
-    entries-requires
+    (λ c κs. search needs)
     loop-holds
-    mul-below
-    array-copy-out-below
-    mul-below-2
-    array-copy-out-below-2
-    below-requires
+    (λ c. search needs)
+    (λ c. search needs)
+    (λ c. search needs)
+    (λ c. search needs)
+    (λ c κs. search needs)
     returns
-    add-j
-    loop-less
+    (λ c. search needs)
+    (λ c. search needs)
     loop-again
     returns-2)

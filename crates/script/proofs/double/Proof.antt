@@ -12,9 +12,6 @@ use Rattle.script.proofs.Reading.{held-none, held-some, number-empty, t
 use Rattle.script.proofs.double.Statement.{statement}
 use Rattle.script.proofs.double.Tie as tie
 
-find-requires : tie.Need-find-requires
-find-requires c κs = search needs
-
 returns : tie.Need-returns
 unfolding heldLine
 returns c =
@@ -25,9 +22,6 @@ returns c =
 slice-aggregate-parse-number : tie.Need-slice-aggregate-parse-number
 slice-aggregate-parse-number c = sym (length-take-le (c .before .before .find .result) (c .before .before .before .before .args .t .now) (c .before .before .find .ensures .0))
 
-parse-number-requires : tie.Need-parse-number-requires
-parse-number-requires c κs = search needs
-
 returns-2 : tie.Need-returns-2
 unfolding heldTwo heldLine
 returns-2 c =
@@ -35,21 +29,6 @@ returns-2 c =
     let r = c .before .before .parse-number .result in
     let e = ap numberOf (sym (c .before .before .before .before .before .find .ensures .1 .0)) ∙ held-none (numberOf (take (c .before .before .before .before .before .find .result) t)) r (c .before .before .parse-number .ensures) (not-true (r .ok) (c .if2 .taken)) in
     rw e
-
-add-rest : tie.Need-add-rest
-add-rest c = search needs
-
-sub-parse-number : tie.Need-sub-parse-number
-sub-parse-number c = search needs
-
-part-parse-number-start : tie.Need-part-parse-number-start
-part-parse-number-start c = search needs
-
-part-parse-number-end : tie.Need-part-parse-number-end
-part-parse-number-end c = search needs
-
-parse-number-requires-2 : tie.Need-parse-number-requires-2
-parse-number-requires-2 c κs = search needs
 
 returns-3 : tie.Need-returns-3
 unfolding heldTwo heldLine
@@ -77,15 +56,15 @@ pub double-spec : {M : Type 1} → statement M
 double-spec =
     tie.close
     (tie.spec
-    find-requires
+    (λ c κs. search needs)
     returns
     slice-aggregate-parse-number
-    parse-number-requires
+    (λ c κs. search needs)
     returns-2
-    add-rest
-    sub-parse-number
-    part-parse-number-start
-    part-parse-number-end
-    parse-number-requires-2
+    (λ c. search needs)
+    (λ c. search needs)
+    (λ c. search needs)
+    (λ c. search needs)
+    (λ c κs. search needs)
     returns-3
     returns-4)

@@ -7,23 +7,11 @@ use Rattle.script.proofs.Reading.{starts-fits, rest-all}
 use Rattle.script.proofs.parse_members.Statement.{statement}
 use Rattle.script.proofs.parse_members.Tie as tie
 
-slice-aggregate-starts-with : tie.Need-slice-aggregate-starts-with
-slice-aggregate-starts-with c = search needs
-
-starts-with-requires : tie.Need-starts-with-requires
-starts-with-requires c κs = search needs
-
 sub-parse-number : tie.Need-sub-parse-number
 sub-parse-number c = starts-fits membersWord (c .before .before .before .before .args .t .now) (sym (c .before .starts-with .ensures) ∙ c .if1 .taken)
 
 part-parse-number-start : tie.Need-part-parse-number-start
 part-parse-number-start c = starts-fits membersWord (c .before .before .before .before .args .t .now) (sym (c .before .starts-with .ensures) ∙ c .if1 .taken)
-
-part-parse-number-end : tie.Need-part-parse-number-end
-part-parse-number-end c = search needs
-
-parse-number-requires : tie.Need-parse-number-requires
-parse-number-requires c κs = search needs
 
 returns : tie.Need-returns
 unfolding firstOf
@@ -37,11 +25,11 @@ pub parse-members-spec : {M : Type 1} → statement M
 parse-members-spec =
     tie.close
     (tie.spec
-    slice-aggregate-starts-with
-    starts-with-requires
+    (λ c. search needs)
+    (λ c κs. search needs)
     sub-parse-number
     part-parse-number-start
-    part-parse-number-end
-    parse-number-requires
+    (λ c. search needs)
+    (λ c κs. search needs)
     returns
     returns-2)

@@ -27,21 +27,12 @@ returns-2 : tie.Need-returns-2 Inv-loop μ-loop
 unfolding heldNumber
 returns-2 c = rw (number-long (c .before .before .before .args .t .now) (c .if2 .taken))
 
-leading-zero-requires : tie.Need-leading-zero-requires Inv-loop μ-loop
-leading-zero-requires c κs = search needs
-
 returns-3 : tie.Need-returns-3 Inv-loop μ-loop
 unfolding heldNumber
 returns-3 c = rw (number-zero (c .before .before .before .before .before .args .t .now) (sym (c .before .leading-zero .ensures) ∙ c .if3 .taken))
 
 loop-holds : tie.Need-loop-holds Inv-loop μ-loop
 loop-holds c = (search needs, (omega arith, refl))
-
-shared-slice-read-digit : tie.Need-shared-slice-read-digit Inv-loop μ-loop
-shared-slice-read-digit c = search needs
-
-digit-requires : tie.Need-digit-requires Inv-loop μ-loop
-digit-requires c κs = search needs
 
 returns-4 : tie.Need-returns-4 Inv-loop μ-loop
 unfolding heldNumber limited
@@ -58,12 +49,6 @@ mul-value c = record { fits = omega (arith, ten-digits (c .before .before .befor
 add-value : tie.Need-add-value Inv-loop μ-loop
 add-value c = record { fits = omega (arith, ten-digits (c .before .before .before .before .loop .i) (omega arith)) }
 
-add-i : tie.Need-add-i Inv-loop μ-loop
-add-i c = search needs
-
-loop-less : tie.Need-loop-less Inv-loop μ-loop
-loop-less c = search needs
-
 loop-again : tie.Need-loop-again Inv-loop μ-loop
 loop-again c =
     let t = c .before .before .before .before .before .before .before .before .before .before .args .t .now in
@@ -79,9 +64,6 @@ returns-5 c =
     let e : numberOf t ≡ limited (some v) = number-plain t (omega arith) (sym (c .before .before .before .before .leading-zero .ensures) ∙ c .before .before .before .if3 .left)
     ∙ ap limited (sym (c .before .before .loop .inv .1 .1) ∙ read-end t v (c .before .before .loop .i) (omega arith)) in
     rw (e, le-ltb v 4294967296 (omega arith))
-
-cast-t13 : tie.Need-cast-t13 Inv-loop μ-loop
-cast-t13 c = search needs
 
 returns-6 : tie.Need-returns-6 Inv-loop μ-loop
 unfolding heldNumber limited
@@ -100,17 +82,17 @@ parse-number-spec =
     μ-loop
     returns
     returns-2
-    leading-zero-requires
+    (λ c κs. search needs)
     returns-3
     loop-holds
-    shared-slice-read-digit
-    digit-requires
+    (λ c. search needs)
+    (λ c κs. search needs)
     returns-4
     mul-value
     add-value
-    add-i
-    loop-less
+    (λ c. search needs)
+    (λ c. search needs)
     loop-again
     returns-5
-    cast-t13
+    (λ c. search needs)
     returns-6)

@@ -7,9 +7,6 @@ use Rattle.script.proofs.Reading.{held-none, held-some}
 use Rattle.script.proofs.single.Statement.{statement}
 use Rattle.script.proofs.single.Tie as tie
 
-parse-number-requires : tie.Need-parse-number-requires
-parse-number-requires c κs = search needs
-
 returns : tie.Need-returns
 unfolding heldOne heldLine
 returns c =
@@ -23,4 +20,4 @@ returns-2 c =
     rw (held-some (numberOf (c .before .before .before .before .args .t .now)) r (c .before .before .parse-number .ensures) (not-false (r .ok) (c .if1 .left)))
 
 pub single-spec : {M : Type 1} → statement M
-single-spec = tie.close (tie.spec parse-number-requires returns returns-2)
+single-spec = tie.close (tie.spec (λ c κs. search needs) returns returns-2)

@@ -15,38 +15,14 @@ use Rattle.model.proofs.Answers.{begin-taken}
 use Rattle.board.proofs.calls.begin_on.Statement.{statement}
 use Rattle.board.proofs.calls.begin_on.Tie as tie
 
-is-numbered-requires : tie.Need-is-numbered-requires
-is-numbered-requires c κs = search needs
-
 returns : tie.Need-returns
 returns c = let a = (c .before .before .before .args) in refuses (a .n) (a .table .now) (begin (a .member) (a .slot) (a .operation) (valueOf (words (a .value)))) 4 ((c .before .before .before .pre)) (no-begin (a .n) _ (a .member) _ _ _ (refused (c .before .is-numbered .ensures) (c .if1 .taken))) (λ e. omega arith)
 
 block-at-requires : tie.Need-block-at-requires
 block-at-requires c κs = let w = within _ _ (allowed (c .before .is-numbered .ensures) (c .if1 .left)) in (c .before .before .before .pre .most, (w .least, w .most))
 
-block-size-requires : tie.Need-block-size-requires
-block-size-requires c κs = search needs
-
-add-end : tie.Need-add-end
-add-end c = search needs
-
-mul-begin-refusal : tie.Need-mul-begin-refusal
-mul-begin-refusal c = search needs
-
-sub-begin-refusal : tie.Need-sub-begin-refusal
-sub-begin-refusal c = search needs
-
-part-begin-refusal-start : tie.Need-part-begin-refusal-start
-part-begin-refusal-start c = search needs
-
-part-begin-refusal-end : tie.Need-part-begin-refusal-end
-part-begin-refusal-end c = search needs
-
 begin-refusal-requires : tie.Need-begin-refusal-requires
 begin-refusal-requires c κs = whole-block (block-lent ((c .before .before .before .before .before .before .before .pre)) (within _ _ (allowed (c .before .before .before .before .before .is-numbered .ensures) (c .before .before .before .before .if1 .left))) (c .before .before .before .block-at .ensures) (c .before .before .block-size .ensures))
-
-same-length : tie.Need-same-length
-same-length c = search needs
 
 returns-2 : tie.Need-returns-2
 unfolding answerOf
@@ -56,25 +32,10 @@ returns-2 c =
     (c .before .begin-refusal .ensures ∙ ap (λ m. beginAnswer concur (a .n) (m .phase) (m .crashed) (m .own (a .slot)) (a .member) (a .slot) (a .operation)) (member-lent (block-lent ((c .before .before .before .before .before .before .before .before .before .pre)) (within _ _ (allowed (c .before .before .before .before .before .before .before .is-numbered .ensures) (c .before .before .before .before .before .before .if1 .left))) (c .before .before .before .before .before .block-at .ensures) (c .before .before .before .before .block-size .ensures))))
     (c .if2 .taken)
 
-mul-begin : tie.Need-mul-begin
-mul-begin c = search needs
-
-sub-begin : tie.Need-sub-begin
-sub-begin c = search needs
-
-part-begin-start : tie.Need-part-begin-start
-part-begin-start c = search needs
-
-part-begin-end : tie.Need-part-begin-end
-part-begin-end c = search needs
-
 begin-requires : tie.Need-begin-requires
 begin-requires c κs =
     let k = begin-taken concur _ _ _ _ _ _ _ (sym (c .before .before .begin-refusal .ensures) ∙ c .before .if2 .left) in
     (whole-block (block-lent ((c .before .before .before .before .before .before .before .before .before .before .pre)) (within _ _ (allowed (c .before .before .before .before .before .before .before .before .is-numbered .ensures) (c .before .before .before .before .before .before .before .if1 .left))) (c .before .before .before .before .before .before .block-at .ensures) (c .before .before .before .before .before .block-size .ensures)), (within _ _ (k .slot), count-room (k .room)))
-
-same-length-2 : tie.Need-same-length-2
-same-length-2 c = search needs
 
 returns-3 : tie.Need-returns-3
 unfolding done boardBegun answerOf
@@ -89,22 +50,22 @@ pub begin-on-spec : {M : Type 1} → statement M
 begin-on-spec =
     tie.close
     (tie.spec
-    is-numbered-requires
+    (λ c κs. search needs)
     returns
     block-at-requires
-    block-size-requires
-    add-end
-    mul-begin-refusal
-    sub-begin-refusal
-    part-begin-refusal-start
-    part-begin-refusal-end
+    (λ c κs. search needs)
+    (λ c. search needs)
+    (λ c. search needs)
+    (λ c. search needs)
+    (λ c. search needs)
+    (λ c. search needs)
     begin-refusal-requires
-    same-length
+    (λ c. search needs)
     returns-2
-    mul-begin
-    sub-begin
-    part-begin-start
-    part-begin-end
+    (λ c. search needs)
+    (λ c. search needs)
+    (λ c. search needs)
+    (λ c. search needs)
     begin-requires
-    same-length-2
+    (λ c. search needs)
     returns-3)

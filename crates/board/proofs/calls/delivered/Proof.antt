@@ -11,12 +11,6 @@ use Rattle.board.proofs.calls.delivered.Tie as tie
 submit-taken-requires : tie.Need-submit-taken-requires
 submit-taken-requires c κs = c .before .before .before .pre .0
 
-nothing-requires : tie.Need-nothing-requires
-nothing-requires c κs = search needs
-
-same-length : tie.Need-same-length
-same-length c = search needs
-
 returns : tie.Need-returns
 returns c =
     let a = (c .before .before .before .before .before .before .before .args) in
@@ -28,12 +22,6 @@ returns c =
 
 reply-taken-requires : tie.Need-reply-taken-requires
 reply-taken-requires c κs = c .before .before .before .before .pre .0
-
-nothing-requires-2 : tie.Need-nothing-requires-2
-nothing-requires-2 c κs = search needs
-
-same-length-2 : tie.Need-same-length-2
-same-length-2 c = search needs
 
 returns-2 : tie.Need-returns-2
 returns-2 c =
@@ -47,12 +35,6 @@ returns-2 c =
 commit-taken-requires : tie.Need-commit-taken-requires
 commit-taken-requires c κs = c .before .before .before .before .before .pre .0
 
-nothing-requires-3 : tie.Need-nothing-requires-3
-nothing-requires-3 c κs = search needs
-
-same-length-3 : tie.Need-same-length-3
-same-length-3 c = search needs
-
 returns-3 : tie.Need-returns-3
 returns-3 c =
     let a = (c .before .before .before .before .before .before .before .before .before .args) in
@@ -64,9 +46,6 @@ returns-3 c =
 
 outcome-taken-requires : tie.Need-outcome-taken-requires
 outcome-taken-requires c κs = c .before .before .before .before .before .pre .0
-
-same-length-4 : tie.Need-same-length-4
-same-length-4 c = search needs
 
 returns-4 : tie.Need-returns-4
 returns-4 c =
@@ -82,17 +61,17 @@ delivered-spec =
     tie.close
     (tie.spec
     submit-taken-requires
-    nothing-requires
-    same-length
+    (λ c κs. search needs)
+    (λ c. search needs)
     returns
     reply-taken-requires
-    nothing-requires-2
-    same-length-2
+    (λ c κs. search needs)
+    (λ c. search needs)
     returns-2
     commit-taken-requires
-    nothing-requires-3
-    same-length-3
+    (λ c κs. search needs)
+    (λ c. search needs)
     returns-3
     outcome-taken-requires
-    same-length-4
+    (λ c. search needs)
     returns-4)

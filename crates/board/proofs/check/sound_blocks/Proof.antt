@@ -19,38 +19,8 @@ Inv-loop table n size passed₀ passed = (passed ≤ n) × (each passed (soundAt
 abbrev μ-loop : tie.MeasureT-loop
 μ-loop table n size passed₀ passed = n - passed
 
-block-size-requires : tie.Need-block-size-requires Inv-loop μ-loop
-block-size-requires c κs = search needs
-
 loop-holds : tie.Need-loop-holds Inv-loop μ-loop
 loop-holds c = (search needs, each-none _)
-
-cast-block-at : tie.Need-cast-block-at Inv-loop μ-loop
-cast-block-at c = search needs
-
-add-block-at : tie.Need-add-block-at Inv-loop μ-loop
-add-block-at c = search needs
-
-block-at-requires : tie.Need-block-at-requires Inv-loop μ-loop
-block-at-requires c κs = search needs
-
-add-end : tie.Need-add-end Inv-loop μ-loop
-add-end c = search needs
-
-mul-sound-block : tie.Need-mul-sound-block Inv-loop μ-loop
-mul-sound-block c = search needs
-
-sub-sound-block : tie.Need-sub-sound-block Inv-loop μ-loop
-sub-sound-block c = search needs
-
-part-sound-block-start : tie.Need-part-sound-block-start Inv-loop μ-loop
-part-sound-block-start c = search needs
-
-part-sound-block-end : tie.Need-part-sound-block-end Inv-loop μ-loop
-part-sound-block-end c = search needs
-
-add-sound-block : tie.Need-add-sound-block Inv-loop μ-loop
-add-sound-block c = search needs
 
 sound-block-requires : tie.Need-sound-block-requires Inv-loop μ-loop
 sound-block-requires c κs = whole-block (block-lent ((c .before .before .before .before .before .before .pre)) (next (c .before .before .loop-test .taken)) (c .before .block-at .ensures) (c .before .before .before .before .block-size .ensures))
@@ -59,12 +29,6 @@ returns : tie.Need-returns Inv-loop μ-loop
 returns c =
     let a = (c .before .before .before .before .before .before .before .before .args) in
     stops (a .n) (soundAt (a .n) (a .table .now)) (c .before .before .before .before .before .loop .passed) (c .before .before .before .before .loop-test .taken) (c .before .sound-block .ensures ∙ ap (soundMember concur (a .n) _) (member-lent (block-lent ((c .before .before .before .before .before .before .before .before .pre)) (next (c .before .before .before .before .loop-test .taken)) (c .before .before .before .block-at .ensures) (c .before .before .before .before .before .before .block-size .ensures)))) (c .if1 .taken)
-
-add-passed : tie.Need-add-passed Inv-loop μ-loop
-add-passed c = search needs
-
-loop-less : tie.Need-loop-less Inv-loop μ-loop
-loop-less c = search needs
 
 loop-again : tie.Need-loop-again Inv-loop μ-loop
 loop-again c =
@@ -82,20 +46,20 @@ sound-blocks-spec =
     (tie.spec
     Inv-loop
     μ-loop
-    block-size-requires
+    (λ c κs. search needs)
     loop-holds
-    cast-block-at
-    add-block-at
-    block-at-requires
-    add-end
-    mul-sound-block
-    sub-sound-block
-    part-sound-block-start
-    part-sound-block-end
-    add-sound-block
+    (λ c. search needs)
+    (λ c. search needs)
+    (λ c κs. search needs)
+    (λ c. search needs)
+    (λ c. search needs)
+    (λ c. search needs)
+    (λ c. search needs)
+    (λ c. search needs)
+    (λ c. search needs)
     sound-block-requires
     returns
-    add-passed
-    loop-less
+    (λ c. search needs)
+    (λ c. search needs)
     loop-again
     returns-2)

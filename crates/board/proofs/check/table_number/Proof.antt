@@ -11,12 +11,6 @@ use Rattle.board.proofs.check.table_number.Tie as tie
 returns : tie.Need-returns
 returns c = empty-refused (c .before .before .args .table .now) (c .if1 .taken)
 
-shared-slice-read-n : tie.Need-shared-slice-read-n
-shared-slice-read-n c = search needs
-
-is-numbered-requires : tie.Need-is-numbered-requires
-is-numbered-requires c κs = search needs
-
 returns-2 : tie.Need-returns-2
 returns-2 c = size-refused (c .before .before .before .before .before .args .table .now) (refused (c .before .is-numbered .ensures) (c .if2 .taken))
 
@@ -49,8 +43,8 @@ table-number-spec =
     tie.close
     (tie.spec
     returns
-    shared-slice-read-n
-    is-numbered-requires
+    (λ c. search needs)
+    (λ c κs. search needs)
     returns-2
     cast-table-size
     table-size-requires

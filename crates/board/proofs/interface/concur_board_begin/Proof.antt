@@ -10,12 +10,6 @@ use Rattle.board.proofs.Beside.{beside-refused, beside-own, beside-long
 use Rattle.board.proofs.interface.concur_board_begin.Statement.{statement}
 use Rattle.board.proofs.interface.concur_board_begin.Tie as tie
 
-table-number-requires : tie.Need-table-number-requires
-table-number-requires c κs = search needs
-
-same-length : tie.Need-same-length
-same-length c = search needs
-
 returns : tie.Need-returns
 returns c =
     let a = (c .before .before .before .before .before .args) in
@@ -23,9 +17,6 @@ returns c =
     let long = length (a .value .now) in
     let k = beside-own long 8 l (begin (a .member) (a .slot) (a .operation) (valueOf (words (a .value .now)))) (c .before .table-number .ensures) (c .if1 .taken) in
     (k, beside-refused long 8 l (begin (a .member) (a .slot) (a .operation) (valueOf (words (a .value .now)))) k (c .if1 .taken))
-
-same-length-2 : tie.Need-same-length-2
-same-length-2 c = search needs
 
 returns-2 : tie.Need-returns-2
 returns-2 c =
@@ -44,9 +35,6 @@ load-value-requires c κs = omega (arith, c .before .before .if2 .left)
 begin-on-requires : tie.Need-begin-on-requires
 begin-on-requires c κs = good (c .before .before .before .before .before .before .before .before .before .args .table .now) (sym (c .before .before .before .before .before .table-number .ensures) ∙ c .before .before .before .before .if1 .left) .table
 
-same-length-3 : tie.Need-same-length-3
-same-length-3 c = search needs
-
 returns-3 : tie.Need-returns-3
 returns-3 c =
     let a = (c .before .before .before .before .before .before .before .before .before .before .before .before .args) in
@@ -61,13 +49,13 @@ pub concur-board-begin-spec : {M : Type 1} → statement M
 concur-board-begin-spec =
     tie.close
     (tie.spec
-    table-number-requires
-    same-length
+    (λ c κs. search needs)
+    (λ c. search needs)
     returns
-    same-length-2
+    (λ c. search needs)
     returns-2
     slice-read-n
     load-value-requires
     begin-on-requires
-    same-length-3
+    (λ c. search needs)
     returns-3)

@@ -8,12 +8,6 @@ use Rattle.board.proofs.Beside.{beside-refused, beside-own, beside-long
 use Rattle.board.proofs.interface.concur_board_deliver.Statement.{statement}
 use Rattle.board.proofs.interface.concur_board_deliver.Tie as tie
 
-table-number-requires : tie.Need-table-number-requires
-table-number-requires c κs = search needs
-
-same-length : tie.Need-same-length
-same-length c = search needs
-
 returns : tie.Need-returns
 returns c =
     let a = (c .before .before .before .before .before .args) in
@@ -21,9 +15,6 @@ returns c =
     let long = length (a .returned .now) in
     let k = beside-own long 9 l (deliver (a .member)) (c .before .table-number .ensures) (c .if1 .taken) in
     (k, (beside-refused long 9 l (deliver (a .member)) k (c .if1 .taken), returned-kept (a .returned .now) l (deliver (a .member)) k (c .if1 .taken)))
-
-same-length-2 : tie.Need-same-length-2
-same-length-2 c = search needs
 
 returns-2 : tie.Need-returns-2
 returns-2 c =
@@ -39,9 +30,6 @@ slice-read-n c = some-words (c .before .before .before .before .before .before .
 deliver-on-requires : tie.Need-deliver-on-requires
 deliver-on-requires c κs = good (c .before .before .before .before .before .before .before .before .args .table .now) (sym (c .before .before .before .before .table-number .ensures) ∙ c .before .before .before .if1 .left)
 
-same-length-3 : tie.Need-same-length-3
-same-length-3 c = search needs
-
 returns-3 : tie.Need-returns-3
 returns-3 c =
     let a = (c .before .before .before .before .before .before .before .before .before .before .before .before .args) in
@@ -53,12 +41,6 @@ returns-3 c =
 
 hand-out-requires : tie.Need-hand-out-requires
 hand-out-requires c κs = c .before .before .before .before .before .before .before .before .if2 .left
-
-same-length-4 : tie.Need-same-length-4
-same-length-4 c = search needs
-
-same-length-5 : tie.Need-same-length-5
-same-length-5 c = search needs
 
 returns-4 : tie.Need-returns-4
 returns-4 c =
@@ -79,16 +61,16 @@ pub concur-board-deliver-spec : {M : Type 1} → statement M
 concur-board-deliver-spec =
     tie.close
     (tie.spec
-    table-number-requires
-    same-length
+    (λ c κs. search needs)
+    (λ c. search needs)
     returns
-    same-length-2
+    (λ c. search needs)
     returns-2
     slice-read-n
     deliver-on-requires
-    same-length-3
+    (λ c. search needs)
     returns-3
     hand-out-requires
-    same-length-4
-    same-length-5
+    (λ c. search needs)
+    (λ c. search needs)
     returns-4)

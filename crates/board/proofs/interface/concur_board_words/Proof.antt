@@ -6,9 +6,6 @@ use Rattle.board.specs.Interface.{wordsFor}
 use Rattle.board.proofs.interface.concur_board_words.Statement.{statement}
 use Rattle.board.proofs.interface.concur_board_words.Tie as tie
 
-is-numbered-requires : tie.Need-is-numbered-requires
-is-numbered-requires c κs = search needs
-
 returns : tie.Need-returns
 unfolding wordsFor
 returns c = rw (refused (c .before .is-numbered .ensures) (c .if1 .taken))
@@ -25,4 +22,4 @@ returns-2 c = rw (allowed (c .before .before .is-numbered .ensures) (c .before .
 
 pub concur-board-words-spec : {M : Type 1} → statement M
 concur-board-words-spec =
-    tie.close (tie.spec is-numbered-requires returns table-size-requires cast-result returns-2)
+    tie.close (tie.spec (λ c κs. search needs) returns table-size-requires cast-result returns-2)

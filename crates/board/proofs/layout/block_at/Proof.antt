@@ -10,12 +10,6 @@ use Rattle.board.proofs.Places.{block-ends}
 use Rattle.board.proofs.layout.block_at.Statement.{statement}
 use Rattle.board.proofs.layout.block_at.Tie as tie
 
-sub-result : tie.Need-sub-result
-sub-result c = search needs
-
-block-size-requires : tie.Need-block-size-requires
-block-size-requires c κs = search needs
-
 mul-result : tie.Need-mul-result
 mul-result c =
     let a = c .before .args in
@@ -44,4 +38,4 @@ returns c =
     })
 
 pub block-at-spec : {M : Type 1} → statement M
-block-at-spec = tie.close (tie.spec sub-result block-size-requires mul-result add-result returns)
+block-at-spec = tie.close (tie.spec (λ c. search needs) (λ c κs. search needs) mul-result add-result returns)

@@ -8,9 +8,6 @@ use Rattle.laws.proofs.Tables.{block-small, table-small, host-room}
 use Rattle.board.proofs.layout.host_at.Statement.{statement}
 use Rattle.board.proofs.layout.host_at.Tie as tie
 
-block-size-requires : tie.Need-block-size-requires
-block-size-requires c κs = search needs
-
 mul-result : tie.Need-mul-result
 mul-result c =
     let a = c .before .args in
@@ -32,4 +29,4 @@ returns c =
     rw (c .block-size .ensures) (record { begins = refl; ends = host-room (a .n); small = table-small (a .n) (c .before .pre) })
 
 pub host-at-spec : {M : Type 1} → statement M
-host-at-spec = tie.close (tie.spec block-size-requires mul-result add-result returns)
+host-at-spec = tie.close (tie.spec (λ c κs. search needs) mul-result add-result returns)

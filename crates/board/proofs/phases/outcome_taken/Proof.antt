@@ -6,32 +6,8 @@ use Rattle.board.proofs.Between.{taken-of}
 use Rattle.board.proofs.phases.outcome_taken.Statement.{statement}
 use Rattle.board.proofs.phases.outcome_taken.Tie as tie
 
-block-at-requires : tie.Need-block-at-requires
-block-at-requires c κs = search needs
-
-block-size-requires : tie.Need-block-size-requires
-block-size-requires c κs = search needs
-
-add-end : tie.Need-add-end
-add-end c = search needs
-
-mul-finish : tie.Need-mul-finish
-mul-finish c = search needs
-
-sub-finish : tie.Need-sub-finish
-sub-finish c = search needs
-
-part-finish-start : tie.Need-part-finish-start
-part-finish-start c = search needs
-
-part-finish-end : tie.Need-part-finish-end
-part-finish-end c = search needs
-
 finish-requires : tie.Need-finish-requires
 finish-requires c κs = running-block (block-lent (c .before .before .before .before .pre .table) (c .before .before .before .before .pre .member) (c .before .before .block-at .ensures) (c .before .block-size .ensures)) (c .before .before .before .before .pre .slot)
-
-same-length : tie.Need-same-length
-same-length c = search needs
 
 returns : tie.Need-returns
 unfolding outcomeTaken
@@ -47,13 +23,13 @@ pub outcome-taken-spec : {M : Type 1} → statement M
 outcome-taken-spec =
     tie.close
     (tie.spec
-    block-at-requires
-    block-size-requires
-    add-end
-    mul-finish
-    sub-finish
-    part-finish-start
-    part-finish-end
+    (λ c κs. search needs)
+    (λ c κs. search needs)
+    (λ c. search needs)
+    (λ c. search needs)
+    (λ c. search needs)
+    (λ c. search needs)
+    (λ c. search needs)
     finish-requires
-    same-length
+    (λ c. search needs)
     returns)

@@ -7,12 +7,6 @@ use Rattle.board.proofs.Places.{block-positive}
 use Rattle.board.proofs.steps.phase.Statement.{statement}
 use Rattle.board.proofs.steps.phase.Tie as tie
 
-block-at-requires : tie.Need-block-at-requires
-block-at-requires c κs = search needs
-
-mul-result : tie.Need-mul-result
-mul-result c = search needs
-
 shared-slice-read-result : tie.Need-shared-slice-read-result
 shared-slice-read-result c = omega (arith, block-positive (c .before .before .before .args .n), c .before .block-at .ensures .ends)
 
@@ -20,4 +14,4 @@ returns : tie.Need-returns
 returns c = ap (words (c .before .before .before .args .table .now)) (c .before .block-at .ensures .begins) ∙ phase-at (c .before .before .before .pre .0) (c .before .before .before .pre .1)
 
 pub phase-spec : {M : Type 1} → statement M
-phase-spec = tie.close (tie.spec block-at-requires mul-result shared-slice-read-result returns)
+phase-spec = tie.close (tie.spec (λ c κs. search needs) (λ c. search needs) shared-slice-read-result returns)

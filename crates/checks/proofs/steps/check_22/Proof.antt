@@ -36,41 +36,8 @@ Inv-loop n member slot at a b k₀ k = (k ≤ n) × (each k (test member a b) �
 abbrev μ-loop : tie.MeasureT-loop
 μ-loop n member slot at a b k₀ k = n - k
 
-sub-at : tie.Need-sub-at Inv-loop μ-loop
-sub-at c = search needs
-
-mul-a : tie.Need-mul-a Inv-loop μ-loop
-mul-a c = search needs
-
-array-copy-out-a : tie.Need-array-copy-out-a Inv-loop μ-loop
-array-copy-out-a c = search needs
-
-mul-b : tie.Need-mul-b Inv-loop μ-loop
-mul-b c = search needs
-
-array-copy-out-b : tie.Need-array-copy-out-b Inv-loop μ-loop
-array-copy-out-b c = search needs
-
 loop-holds : tie.Need-loop-holds Inv-loop μ-loop
 loop-holds c = (search needs, each-none _)
-
-add-not-above : tie.Need-add-not-above Inv-loop μ-loop
-add-not-above c = search needs
-
-mul-not-above : tie.Need-mul-not-above Inv-loop μ-loop
-mul-not-above c = search needs
-
-element-copy-out-not-above : tie.Need-element-copy-out-not-above Inv-loop μ-loop
-element-copy-out-not-above c = search needs
-
-mul-not-above-2 : tie.Need-mul-not-above-2 Inv-loop μ-loop
-mul-not-above-2 c = search needs
-
-element-copy-out-not-above-2 : tie.Need-element-copy-out-not-above-2 Inv-loop μ-loop
-element-copy-out-not-above-2 c = search needs
-
-not-above-requires : tie.Need-not-above-requires Inv-loop μ-loop
-not-above-requires c κs = search needs
 
 returns : tie.Need-returns Inv-loop μ-loop
 returns c =
@@ -80,12 +47,6 @@ returns c =
     let b : Row = getD (g .t2) (g .slot - 1) noRow in
     stops (g .n) (test (g .member) a b) (l .k) (omega arith) (tested (g .member) a b (l .k) (omega arith) (c .before .not-above .ensures)) (c .if1 .taken)
     ∙ by-rows (g .t1) (g .t2) (g .n) (g .member) (g .slot) (omega arith) (omega arith)
-
-add-k : tie.Need-add-k Inv-loop μ-loop
-add-k c = search needs
-
-loop-less : tie.Need-loop-less Inv-loop μ-loop
-loop-less c = search needs
 
 loop-again : tie.Need-loop-again Inv-loop μ-loop
 loop-again c =
@@ -108,20 +69,20 @@ check-22-spec =
     (tie.spec
     Inv-loop
     μ-loop
-    sub-at
-    mul-a
-    array-copy-out-a
-    mul-b
-    array-copy-out-b
+    (λ c. search needs)
+    (λ c. search needs)
+    (λ c. search needs)
+    (λ c. search needs)
+    (λ c. search needs)
     loop-holds
-    add-not-above
-    mul-not-above
-    element-copy-out-not-above
-    mul-not-above-2
-    element-copy-out-not-above-2
-    not-above-requires
+    (λ c. search needs)
+    (λ c. search needs)
+    (λ c. search needs)
+    (λ c. search needs)
+    (λ c. search needs)
+    (λ c κs. search needs)
     returns
-    add-k
-    loop-less
+    (λ c. search needs)
+    (λ c. search needs)
     loop-again
     returns-2)

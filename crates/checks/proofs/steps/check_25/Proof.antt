@@ -13,12 +13,6 @@ use Rattle.checks.proofs.Matrices.{row-of, count-of}
 use Rattle.checks.proofs.steps.check_25.Statement.{statement}
 use Rattle.checks.proofs.steps.check_25.Tie as tie
 
-sub-at : tie.Need-sub-at
-sub-at c = search needs
-
-matrix-below-requires : tie.Need-matrix-below-requires
-matrix-below-requires c κs = search needs
-
 returns : tie.Need-returns
 unfolding check25
 returns c =
@@ -26,30 +20,6 @@ returns c =
     let m : min (a .n) 12 ≡ a .n = omega arith in
     let e : matrixBelow (a .n) (matrixIn (a .t1)) (matrixIn (a .t2)) ≡ false = rw m at (refused (c .before .matrix-below .ensures) (c .if1 .taken)) in
     rw e
-
-mul-a : tie.Need-mul-a
-mul-a c = search needs
-
-array-copy-out-a : tie.Need-array-copy-out-a
-array-copy-out-a c = search needs
-
-mul-b : tie.Need-mul-b
-mul-b c = search needs
-
-array-copy-out-b : tie.Need-array-copy-out-b
-array-copy-out-b c = search needs
-
-mul-result : tie.Need-mul-result
-mul-result c = search needs
-
-element-copy-out-result : tie.Need-element-copy-out-result
-element-copy-out-result c = search needs
-
-mul-result-2 : tie.Need-mul-result-2
-mul-result-2 c = search needs
-
-element-copy-out-result-2 : tie.Need-element-copy-out-result-2
-element-copy-out-result-2 c = search needs
 
 returns-2 : tie.Need-returns-2
 unfolding check25
@@ -69,15 +39,15 @@ pub check-25-spec : {M : Type 1} → statement M
 check-25-spec =
     tie.close
     (tie.spec
-    sub-at
-    matrix-below-requires
+    (λ c. search needs)
+    (λ c κs. search needs)
     returns
-    mul-a
-    array-copy-out-a
-    mul-b
-    array-copy-out-b
-    mul-result
-    element-copy-out-result
-    mul-result-2
-    element-copy-out-result-2
+    (λ c. search needs)
+    (λ c. search needs)
+    (λ c. search needs)
+    (λ c. search needs)
+    (λ c. search needs)
+    (λ c. search needs)
+    (λ c. search needs)
+    (λ c. search needs)
     returns-2)

@@ -37,24 +37,6 @@ abbrev μ-loop : tie.MeasureT-loop
 loop-holds : tie.Need-loop-holds Inv-loop μ-loop
 loop-holds c = (search needs, each-none _)
 
-add-in-order : tie.Need-add-in-order Inv-loop μ-loop
-add-in-order c = search needs
-
-mul-in-order : tie.Need-mul-in-order Inv-loop μ-loop
-mul-in-order c = search needs
-
-array-copy-out-in-order : tie.Need-array-copy-out-in-order Inv-loop μ-loop
-array-copy-out-in-order c = search needs
-
-mul-in-order-2 : tie.Need-mul-in-order-2 Inv-loop μ-loop
-mul-in-order-2 c = search needs
-
-array-copy-out-in-order-2 : tie.Need-array-copy-out-in-order-2 Inv-loop μ-loop
-array-copy-out-in-order-2 c = search needs
-
-in-order-requires : tie.Need-in-order-requires Inv-loop μ-loop
-in-order-requires c κs = search needs
-
 returns : tie.Need-returns Inv-loop μ-loop
 unfolding check26
 returns c =
@@ -62,12 +44,6 @@ returns c =
     let l = (c .before .before .before .before .before .loop) in
     stops (g .n) (test (g .n) (g .slot) (g .t1) (g .t2)) (l .j) (omega arith)
     (tested (g .n) (g .slot) (g .t1) (g .t2) (l .j) (omega arith) (omega arith) (c .before .in-order .ensures)) (c .if1 .taken)
-
-add-j : tie.Need-add-j Inv-loop μ-loop
-add-j c = search needs
-
-loop-less : tie.Need-loop-less Inv-loop μ-loop
-loop-less c = search needs
 
 loop-again : tie.Need-loop-again Inv-loop μ-loop
 loop-again c =
@@ -92,14 +68,14 @@ check-26-spec =
     Inv-loop
     μ-loop
     loop-holds
-    add-in-order
-    mul-in-order
-    array-copy-out-in-order
-    mul-in-order-2
-    array-copy-out-in-order-2
-    in-order-requires
+    (λ c. search needs)
+    (λ c. search needs)
+    (λ c. search needs)
+    (λ c. search needs)
+    (λ c. search needs)
+    (λ c κs. search needs)
     returns
-    add-j
-    loop-less
+    (λ c. search needs)
+    (λ c. search needs)
     loop-again
     returns-2)

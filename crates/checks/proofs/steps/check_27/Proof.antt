@@ -33,35 +33,8 @@ Inv-loop n member slot accepted newest at j₀ j = (j ≤ n) × (each j (test me
 abbrev μ-loop : tie.MeasureT-loop
 μ-loop n member slot accepted newest at j₀ j = n - j
 
-sub-at : tie.Need-sub-at Inv-loop μ-loop
-sub-at c = search needs
-
 loop-holds : tie.Need-loop-holds Inv-loop μ-loop
 loop-holds c = (search needs, each-none _)
-
-mul-row : tie.Need-mul-row Inv-loop μ-loop
-mul-row c = search needs
-
-array-copy-out-row : tie.Need-array-copy-out-row Inv-loop μ-loop
-array-copy-out-row c = search needs
-
-add-not-above : tie.Need-add-not-above Inv-loop μ-loop
-add-not-above c = search needs
-
-mul-not-above : tie.Need-mul-not-above Inv-loop μ-loop
-mul-not-above c = search needs
-
-element-copy-out-not-above : tie.Need-element-copy-out-not-above Inv-loop μ-loop
-element-copy-out-not-above c = search needs
-
-mul-not-above-2 : tie.Need-mul-not-above-2 Inv-loop μ-loop
-mul-not-above-2 c = search needs
-
-element-copy-out-not-above-2 : tie.Need-element-copy-out-not-above-2 Inv-loop μ-loop
-element-copy-out-not-above-2 c = search needs
-
-not-above-requires : tie.Need-not-above-requires Inv-loop μ-loop
-not-above-requires c κs = search needs
 
 returns : tie.Need-returns Inv-loop μ-loop
 unfolding check27
@@ -70,12 +43,6 @@ returns c =
     let l = (c .before .before .before .before .before .before .loop) in
     stops (g .n) (test (g .member) (g .slot) (g .t1) (g .t2)) (l .j) (omega arith)
     (tested (g .member) (g .slot) (g .t1) (g .t2) (l .j) (omega arith) (omega arith) (omega arith) (c .before .not-above .ensures)) (c .if1 .taken)
-
-add-j : tie.Need-add-j Inv-loop μ-loop
-add-j c = search needs
-
-loop-less : tie.Need-loop-less Inv-loop μ-loop
-loop-less c = search needs
 
 loop-again : tie.Need-loop-again Inv-loop μ-loop
 loop-again c =
@@ -99,18 +66,18 @@ check-27-spec =
     (tie.spec
     Inv-loop
     μ-loop
-    sub-at
+    (λ c. search needs)
     loop-holds
-    mul-row
-    array-copy-out-row
-    add-not-above
-    mul-not-above
-    element-copy-out-not-above
-    mul-not-above-2
-    element-copy-out-not-above-2
-    not-above-requires
+    (λ c. search needs)
+    (λ c. search needs)
+    (λ c. search needs)
+    (λ c. search needs)
+    (λ c. search needs)
+    (λ c. search needs)
+    (λ c. search needs)
+    (λ c κs. search needs)
     returns
-    add-j
-    loop-less
+    (λ c. search needs)
+    (λ c. search needs)
     loop-again
     returns-2)

@@ -30,33 +30,6 @@ abbrev μ-loop : tie.MeasureT-loop
 loop-holds : tie.Need-loop-holds Inv-loop μ-loop
 loop-holds c = (search needs, (refl, zero-rows ∙ sym (pasted-none 0 _ _)))
 
-mul-larger : tie.Need-mul-larger Inv-loop μ-loop
-mul-larger c = search needs
-
-array-copy-out-larger : tie.Need-array-copy-out-larger Inv-loop μ-loop
-array-copy-out-larger c = search needs
-
-mul-larger-2 : tie.Need-mul-larger-2 Inv-loop μ-loop
-mul-larger-2 c = search needs
-
-array-copy-out-larger-2 : tie.Need-array-copy-out-larger-2 Inv-loop μ-loop
-array-copy-out-larger-2 c = search needs
-
-larger-requires : tie.Need-larger-requires Inv-loop μ-loop
-larger-requires c κs = search needs
-
-mul-matrix : tie.Need-mul-matrix Inv-loop μ-loop
-mul-matrix c = search needs
-
-array-set-from-matrix : tie.Need-array-set-from-matrix Inv-loop μ-loop
-array-set-from-matrix c = search needs
-
-add-j : tie.Need-add-j Inv-loop μ-loop
-add-j c = search needs
-
-loop-less : tie.Need-loop-less Inv-loop μ-loop
-loop-less c = search needs
-
 loop-again : tie.Need-loop-again Inv-loop μ-loop
 loop-again c =
     let a = (c .before .before .before .before .before .args) in
@@ -70,24 +43,6 @@ loop-again c =
             (rw (row-at (a .t1) (l .j) (omega arith), row-at (a .t2) (l .j) (omega arith)) (rw m at (c .larger .ensures))),
       ),
     )
-
-sub-at : tie.Need-sub-at Inv-loop μ-loop
-sub-at c = search needs
-
-mul-with : tie.Need-mul-with Inv-loop μ-loop
-mul-with c = search needs
-
-array-copy-out-with : tie.Need-array-copy-out-with Inv-loop μ-loop
-array-copy-out-with c = search needs
-
-with-requires : tie.Need-with-requires Inv-loop μ-loop
-with-requires c κs = search needs
-
-mul-matrix-2 : tie.Need-mul-matrix-2 Inv-loop μ-loop
-mul-matrix-2 c = search needs
-
-array-set-from-matrix-2 : tie.Need-array-set-from-matrix-2 Inv-loop μ-loop
-array-set-from-matrix-2 c = search needs
 
 returns : tie.Need-returns Inv-loop μ-loop
 returns c =
@@ -107,20 +62,20 @@ joined-matrix-spec =
     Inv-loop
     μ-loop
     loop-holds
-    mul-larger
-    array-copy-out-larger
-    mul-larger-2
-    array-copy-out-larger-2
-    larger-requires
-    mul-matrix
-    array-set-from-matrix
-    add-j
-    loop-less
+    (λ c. search needs)
+    (λ c. search needs)
+    (λ c. search needs)
+    (λ c. search needs)
+    (λ c κs. search needs)
+    (λ c. search needs)
+    (λ c. search needs)
+    (λ c. search needs)
+    (λ c. search needs)
     loop-again
-    sub-at
-    mul-with
-    array-copy-out-with
-    with-requires
-    mul-matrix-2
-    array-set-from-matrix-2
+    (λ c. search needs)
+    (λ c. search needs)
+    (λ c. search needs)
+    (λ c κs. search needs)
+    (λ c. search needs)
+    (λ c. search needs)
     returns)

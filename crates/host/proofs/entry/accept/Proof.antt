@@ -20,17 +20,11 @@ slice-write-entry-2 c =
     let s = sizes (c .before .args .n) in
     simp length-set (omega arith)
 
-newest-at-requires : tie.Need-newest-at-requires
-newest-at-requires c κs = search needs
-
 store-record-requires : tie.Need-store-record-requires
 store-record-requires c κs =
     let s = sizes (c .before .before .before .args .n) in
     let p = c .before .newest-at .ensures in
     (omega arith, simp length-set (omega arith))
-
-record-size-requires : tie.Need-record-size-requires
-record-size-requires c κs = search needs
 
 copy-down-requires : tie.Need-copy-down-requires
 copy-down-requires c κs =
@@ -78,9 +72,9 @@ accept-spec =
     (tie.spec
     slice-write-entry
     slice-write-entry-2
-    newest-at-requires
+    (λ c κs. search needs)
     store-record-requires
-    record-size-requires
+    (λ c κs. search needs)
     copy-down-requires
     same-length
     returns

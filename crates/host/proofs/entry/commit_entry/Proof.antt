@@ -39,12 +39,6 @@ returns-2 c =
     let lost = other-count (a .n) (a .entry .now) r (c .if2 .taken) in
     (sym lost, (sym (entry-lost (a .n) e s r lost), sym (stored-lost (a .n) e s r lost)))
 
-accept-requires : tie.Need-accept-requires
-accept-requires c κs = search needs
-
-same-length : tie.Need-same-length
-same-length c = search needs
-
 returns-3 : tie.Need-returns-3
 unfolding recordIn
 returns-3 c =
@@ -63,6 +57,6 @@ commit-entry-spec =
     returns
     slice-read-if2
     returns-2
-    accept-requires
-    same-length
+    (λ c κs. search needs)
+    (λ c. search needs)
     returns-3)

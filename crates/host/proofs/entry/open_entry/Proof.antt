@@ -14,15 +14,6 @@ becomes-stored : (slot : ℕ) → becomesStored concur (opening slot) ≡ true
 unfolding becomesStored opening
 becomes-stored slot = refl
 
-opening-requires : tie.Need-opening-requires
-opening-requires c κs = search needs
-
-accept-requires : tie.Need-accept-requires
-accept-requires c κs = search needs
-
-same-length : tie.Need-same-length
-same-length c = search needs
-
 returns : tie.Need-returns
 unfolding openingEntry
 returns c =
@@ -30,4 +21,4 @@ returns c =
     rw (first, within-opening, becomes-stored) at (c .before .before .accept .ensures)
 
 pub open-entry-spec : {M : Type 1} → statement M
-open-entry-spec = tie.close (tie.spec opening-requires accept-requires same-length returns)
+open-entry-spec = tie.close (tie.spec (λ c κs. search needs) (λ c κs. search needs) (λ c. search needs) returns)

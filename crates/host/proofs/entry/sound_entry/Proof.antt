@@ -18,9 +18,6 @@ use Rattle.host.proofs.entry.sound_entry.Tie as tie
 abbrev stored-sound : ℕ → List ℕ → Bool
 stored-sound n entry = soundRecord n (recordOf n (from (words entry) storedAt))
 
-newest-at-requires : tie.Need-newest-at-requires
-newest-at-requires c κs = search needs
-
 shared-slice-read-if1 : tie.Need-shared-slice-read-if1
 shared-slice-read-if1 c =
     let s = sizes (c .before .before .before .args .n) in
@@ -60,7 +57,7 @@ pub sound-entry-spec : {M : Type 1} → statement M
 sound-entry-spec =
     tie.close
     (tie.spec
-    newest-at-requires
+    (λ c κs. search needs)
     shared-slice-read-if1
     returns
     sound-record-requires

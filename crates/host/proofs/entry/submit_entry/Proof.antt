@@ -8,9 +8,6 @@ use Rattle.host.proofs.EntryWords.{sizes, entry-marked, stored-marked}
 use Rattle.host.proofs.entry.submit_entry.Statement.{statement}
 use Rattle.host.proofs.entry.submit_entry.Tie as tie
 
-newest-at-requires : tie.Need-newest-at-requires
-newest-at-requires c κs = search needs
-
 load-record-requires : tie.Need-load-record-requires
 load-record-requires c κs =
     let s = sizes (c .before .before .before .args .n) in
@@ -48,7 +45,7 @@ pub submit-entry-spec : {M : Type 1} → statement M
 submit-entry-spec =
     tie.close
     (tie.spec
-    newest-at-requires
+    (λ c κs. search needs)
     load-record-requires
     load-record-requires-2
     slice-write-entry

@@ -12,12 +12,6 @@ use Rattle.host.proofs.EntryWords.{host-small}
 use Rattle.host.proofs.layout.entry_place.Statement.{statement}
 use Rattle.host.proofs.layout.entry_place.Tie as tie
 
-sub-result : tie.Need-sub-result
-sub-result c = search needs
-
-entry-size-requires : tie.Need-entry-size-requires
-entry-size-requires c κs = search needs
-
 mul-result : tie.Need-mul-result
 mul-result c =
     let a = c .before .args in
@@ -38,4 +32,4 @@ returns c =
     })
 
 pub entry-place-spec : {M : Type 1} → statement M
-entry-place-spec = tie.close (tie.spec sub-result entry-size-requires mul-result returns)
+entry-place-spec = tie.close (tie.spec (λ c. search needs) (λ c κs. search needs) mul-result returns)

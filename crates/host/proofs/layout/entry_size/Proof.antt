@@ -7,12 +7,6 @@ use Rattle.host.proofs.EntryWords.{sizes}
 use Rattle.host.proofs.layout.entry_size.Statement.{statement}
 use Rattle.host.proofs.layout.entry_size.Tie as tie
 
-newest-at-requires : tie.Need-newest-at-requires
-newest-at-requires c κs = search needs
-
-record-size-requires : tie.Need-record-size-requires
-record-size-requires c κs = search needs
-
 add-result : tie.Need-add-result
 add-result c =
     let s = sizes (c .before .before .args .n) in
@@ -23,4 +17,4 @@ unfolding entrySize
 returns c = omega arith
 
 pub entry-size-spec : {M : Type 1} → statement M
-entry-size-spec = tie.close (tie.spec newest-at-requires record-size-requires add-result returns)
+entry-size-spec = tie.close (tie.spec (λ c κs. search needs) (λ c κs. search needs) add-result returns)

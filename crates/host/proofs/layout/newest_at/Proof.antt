@@ -6,9 +6,6 @@ use Rattle.laws.proofs.Records.{recordSize-small}
 use Rattle.host.proofs.layout.newest_at.Statement.{statement}
 use Rattle.host.proofs.layout.newest_at.Tie as tie
 
-record-size-requires : tie.Need-record-size-requires
-record-size-requires c κs = search needs
-
 add-result : tie.Need-add-result
 add-result c = omega (arith, recordSize-small (c .before .args .n) (c .before .pre))
 
@@ -17,4 +14,4 @@ unfolding newestAt
 returns c = omega arith
 
 pub newest-at-spec : {M : Type 1} → statement M
-newest-at-spec = tie.close (tie.spec record-size-requires add-result returns)
+newest-at-spec = tie.close (tie.spec (λ c κs. search needs) add-result returns)

@@ -7,9 +7,6 @@ use Rattle.model.specs.Table.{hostSize, entriesNumber}
 use Rattle.host.proofs.numbers.entries_number.Statement.{statement}
 use Rattle.host.proofs.numbers.entries_number.Tie as tie
 
-host-size-requires : tie.Need-host-size-requires
-host-size-requires c κs = search needs
-
 returns : tie.Need-returns
 unfolding entriesNumber
 returns c =
@@ -39,4 +36,4 @@ returns-3 c =
 
 pub entries-number-spec : {M : Type 1} → statement M
 entries-number-spec =
-    tie.close (tie.spec host-size-requires returns sound-entries-requires returns-2 returns-3)
+    tie.close (tie.spec (λ c κs. search needs) returns sound-entries-requires returns-2 returns-3)

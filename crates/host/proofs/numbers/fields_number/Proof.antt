@@ -5,14 +5,8 @@ use borrow.Author.Tests.{not-true, not-false}
 use Rattle.host.proofs.numbers.fields_number.Statement.{statement}
 use Rattle.host.proofs.numbers.fields_number.Tie as tie
 
-is-numbered-requires : tie.Need-is-numbered-requires
-is-numbered-requires c κs = search needs
-
 returns : tie.Need-returns
 returns c = rw (sym (c .before .is-numbered .ensures) ∙ not-true _ (c .if1 .taken))
-
-is-numbered-requires-2 : tie.Need-is-numbered-requires-2
-is-numbered-requires-2 c κs = search needs
 
 returns-2 : tie.Need-returns-2
 returns-2 c = rw (
@@ -20,18 +14,12 @@ returns-2 c = rw (
   sym (c .before .is-numbered2 .ensures) ∙ not-true _ (c .if2 .taken),
 )
 
-is-operation-requires : tie.Need-is-operation-requires
-is-operation-requires c κs = search needs
-
 returns-3 : tie.Need-returns-3
 returns-3 c = rw (
   sym (c .before .before .before .before .before .is-numbered .ensures) ∙ not-false _ (c .before .before .before .before .if1 .left),
   sym (c .before .before .before .is-numbered2 .ensures) ∙ not-false _ (c .before .before .if2 .left),
   sym (c .before .is-operation .ensures) ∙ not-true _ (c .if3 .taken),
 )
-
-is-barred-requires : tie.Need-is-barred-requires
-is-barred-requires c κs = search needs
 
 returns-4 : tie.Need-returns-4
 returns-4 c = rw (
@@ -53,12 +41,12 @@ pub fields-number-spec : {M : Type 1} → statement M
 fields-number-spec =
     tie.close
     (tie.spec
-    is-numbered-requires
+    (λ c κs. search needs)
     returns
-    is-numbered-requires-2
+    (λ c κs. search needs)
     returns-2
-    is-operation-requires
+    (λ c κs. search needs)
     returns-3
-    is-barred-requires
+    (λ c κs. search needs)
     returns-4
     returns-5)

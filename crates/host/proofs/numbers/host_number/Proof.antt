@@ -7,9 +7,6 @@ use Rattle.model.specs.Halves.{hostNumber}
 use Rattle.host.proofs.numbers.host_number.Statement.{statement}
 use Rattle.host.proofs.numbers.host_number.Tie as tie
 
-is-numbered-requires : tie.Need-is-numbered-requires
-is-numbered-requires c κs = search needs
-
 returns : tie.Need-returns
 unfolding hostNumber
 returns c = rw (sym (c .before .is-numbered .ensures) ∙ not-true _ (c .if1 .taken))
@@ -25,9 +22,6 @@ returns-2 c = rw (
   ne-eqb (c .before .entries-number .result) 0 (c .if2 .taken),
 )
 
-fields-number-requires : tie.Need-fields-number-requires
-fields-number-requires c κs = search needs
-
 returns-3 : tie.Need-returns-3
 unfolding hostNumber
 returns-3 c = rw (
@@ -40,9 +34,9 @@ pub host-number-spec : {M : Type 1} → statement M
 host-number-spec =
     tie.close
     (tie.spec
-    is-numbered-requires
+    (λ c κs. search needs)
     returns
     entries-number-requires
     returns-2
-    fields-number-requires
+    (λ c κs. search needs)
     returns-3)

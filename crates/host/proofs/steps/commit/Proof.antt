@@ -12,36 +12,9 @@ use Rattle.host.proofs.Lent.{lent, lent-entry, entry-lent, stored-lent,
 use Rattle.host.proofs.steps.commit.Statement.{statement}
 use Rattle.host.proofs.steps.commit.Tie as tie
 
-cast-entry-place : tie.Need-cast-entry-place
-cast-entry-place c = search needs
-
-entry-place-requires : tie.Need-entry-place-requires
-entry-place-requires c κs = search needs
-
-entry-size-requires : tie.Need-entry-size-requires
-entry-size-requires c κs = search needs
-
-add-end : tie.Need-add-end
-add-end c = search needs
-
-mul-commit-entry : tie.Need-mul-commit-entry
-mul-commit-entry c = search needs
-
-sub-commit-entry : tie.Need-sub-commit-entry
-sub-commit-entry c = search needs
-
-part-commit-entry-start : tie.Need-part-commit-entry-start
-part-commit-entry-start c = search needs
-
-part-commit-entry-end : tie.Need-part-commit-entry-end
-part-commit-entry-end c = search needs
-
 commit-entry-requires : tie.Need-commit-entry-requires
 commit-entry-requires c κs =
     lent-entry (lent (c .before .before .before .before .pre) (c .before .before .entry-place .ensures) (c .before .entry-size .ensures))
-
-same-length : tie.Need-same-length
-same-length c = search needs
 
 returns : tie.Need-returns
 returns c =
@@ -68,14 +41,14 @@ pub commit-spec : {M : Type 1} → statement M
 commit-spec =
     tie.close
     (tie.spec
-    cast-entry-place
-    entry-place-requires
-    entry-size-requires
-    add-end
-    mul-commit-entry
-    sub-commit-entry
-    part-commit-entry-start
-    part-commit-entry-end
+    (λ c. search needs)
+    (λ c κs. search needs)
+    (λ c κs. search needs)
+    (λ c. search needs)
+    (λ c. search needs)
+    (λ c. search needs)
+    (λ c. search needs)
+    (λ c. search needs)
     commit-entry-requires
-    same-length
+    (λ c. search needs)
     returns)

@@ -7,9 +7,6 @@ use Rattle.host.proofs.EntryWords.{host-small}
 use Rattle.host.proofs.steps.host_size.Statement.{statement}
 use Rattle.host.proofs.steps.host_size.Tie as tie
 
-entry-size-requires : tie.Need-entry-size-requires
-entry-size-requires c κs = search needs
-
 mul-result : tie.Need-mul-result
 unfolding hostSize
 mul-result c =
@@ -21,4 +18,4 @@ unfolding hostSize
 returns c = rw (c .entry-size .ensures)
 
 pub host-size-spec : {M : Type 1} → statement M
-host-size-spec = tie.close (tie.spec entry-size-requires mul-result returns)
+host-size-spec = tie.close (tie.spec (λ c κs. search needs) mul-result returns)

@@ -29,38 +29,8 @@ Inv-loop entries₀ n size done₀ entries done =
 abbrev μ-loop : tie.MeasureT-loop
 μ-loop entries₀ n size done₀ entries done = n - done
 
-entry-size-requires : tie.Need-entry-size-requires Inv-loop μ-loop
-entry-size-requires c κs = search needs
-
 loop-holds : tie.Need-loop-holds Inv-loop μ-loop
 loop-holds c = (search needs, (c .before .before .pre .long, (agree-none _ _, agree-none _ _)))
-
-cast-entry-place : tie.Need-cast-entry-place Inv-loop μ-loop
-cast-entry-place c = search needs
-
-add-entry-place : tie.Need-add-entry-place Inv-loop μ-loop
-add-entry-place c = search needs
-
-entry-place-requires : tie.Need-entry-place-requires Inv-loop μ-loop
-entry-place-requires c κs = search needs
-
-add-end : tie.Need-add-end Inv-loop μ-loop
-add-end c = search needs
-
-mul-open-entry : tie.Need-mul-open-entry Inv-loop μ-loop
-mul-open-entry c = search needs
-
-sub-open-entry : tie.Need-sub-open-entry Inv-loop μ-loop
-sub-open-entry c = search needs
-
-part-open-entry-start : tie.Need-part-open-entry-start Inv-loop μ-loop
-part-open-entry-start c = search needs
-
-part-open-entry-end : tie.Need-part-open-entry-end Inv-loop μ-loop
-part-open-entry-end c = search needs
-
-add-open-entry : tie.Need-add-open-entry Inv-loop μ-loop
-add-open-entry c = search needs
 
 open-entry-requires : tie.Need-open-entry-requires Inv-loop μ-loop
 open-entry-requires c κs =
@@ -68,12 +38,6 @@ open-entry-requires c κs =
     lent-entry (lent (slot (c .before .before .before .before .before .before .pre .most) (l .inv .1 .0) (c .before .before .loop-test .taken))
     (c .before .entry-place .ensures)
     (c .before .before .before .before .entry-size .ensures))
-
-add-done : tie.Need-add-done Inv-loop μ-loop
-add-done c = search needs
-
-loop-less : tie.Need-loop-less Inv-loop μ-loop
-loop-less c = search needs
 
 loop-again : tie.Need-loop-again Inv-loop μ-loop
 loop-again c =
@@ -116,20 +80,20 @@ open-spec =
     (tie.spec
     Inv-loop
     μ-loop
-    entry-size-requires
+    (λ c κs. search needs)
     loop-holds
-    cast-entry-place
-    add-entry-place
-    entry-place-requires
-    add-end
-    mul-open-entry
-    sub-open-entry
-    part-open-entry-start
-    part-open-entry-end
-    add-open-entry
+    (λ c. search needs)
+    (λ c. search needs)
+    (λ c κs. search needs)
+    (λ c. search needs)
+    (λ c. search needs)
+    (λ c. search needs)
+    (λ c. search needs)
+    (λ c. search needs)
+    (λ c. search needs)
     open-entry-requires
-    add-done
-    loop-less
+    (λ c. search needs)
+    (λ c. search needs)
     loop-again
     same-length
     returns)

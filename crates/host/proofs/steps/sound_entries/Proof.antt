@@ -23,35 +23,8 @@ Inv-loop entries n size passed₀ passed = (passed ≤ n) × (each passed (sound
 abbrev μ-loop : tie.MeasureT-loop
 μ-loop entries n size passed₀ passed = n - passed
 
-entry-size-requires : tie.Need-entry-size-requires Inv-loop μ-loop
-entry-size-requires c κs = search needs
-
 loop-holds : tie.Need-loop-holds Inv-loop μ-loop
 loop-holds c = (search needs, each-none _)
-
-cast-entry-place : tie.Need-cast-entry-place Inv-loop μ-loop
-cast-entry-place c = search needs
-
-add-entry-place : tie.Need-add-entry-place Inv-loop μ-loop
-add-entry-place c = search needs
-
-entry-place-requires : tie.Need-entry-place-requires Inv-loop μ-loop
-entry-place-requires c κs = search needs
-
-add-end : tie.Need-add-end Inv-loop μ-loop
-add-end c = search needs
-
-mul-sound-entry : tie.Need-mul-sound-entry Inv-loop μ-loop
-mul-sound-entry c = search needs
-
-sub-sound-entry : tie.Need-sub-sound-entry Inv-loop μ-loop
-sub-sound-entry c = search needs
-
-part-sound-entry-start : tie.Need-part-sound-entry-start Inv-loop μ-loop
-part-sound-entry-start c = search needs
-
-part-sound-entry-end : tie.Need-part-sound-entry-end Inv-loop μ-loop
-part-sound-entry-end c = search needs
 
 sound-entry-requires : tie.Need-sound-entry-requires Inv-loop μ-loop
 sound-entry-requires c κs =
@@ -71,12 +44,6 @@ returns c =
     (c .before .before .before .before .before .before .entry-size .ensures) in
     sym (each-fails (a .n) (soundSlot (a .n) (a .entries .now)) (c .before .before .before .before .before .loop .passed + 1) (omega arith) (omega arith)
     (sym (sound-lent h) ∙ sym (c .before .sound-entry .ensures) ∙ not-true _ (c .if1 .taken)))
-
-add-passed : tie.Need-add-passed Inv-loop μ-loop
-add-passed c = search needs
-
-loop-less : tie.Need-loop-less Inv-loop μ-loop
-loop-less c = search needs
 
 loop-again : tie.Need-loop-again Inv-loop μ-loop
 loop-again c =
@@ -102,19 +69,19 @@ sound-entries-spec =
     (tie.spec
     Inv-loop
     μ-loop
-    entry-size-requires
+    (λ c κs. search needs)
     loop-holds
-    cast-entry-place
-    add-entry-place
-    entry-place-requires
-    add-end
-    mul-sound-entry
-    sub-sound-entry
-    part-sound-entry-start
-    part-sound-entry-end
+    (λ c. search needs)
+    (λ c. search needs)
+    (λ c κs. search needs)
+    (λ c. search needs)
+    (λ c. search needs)
+    (λ c. search needs)
+    (λ c. search needs)
+    (λ c. search needs)
     sound-entry-requires
     returns
-    add-passed
-    loop-less
+    (λ c. search needs)
+    (λ c. search needs)
     loop-again
     returns-2)

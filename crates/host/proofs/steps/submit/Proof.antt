@@ -11,33 +11,9 @@ use Rattle.host.proofs.Lent.{lent, lent-entry, entry-lent, stored-lent,
 use Rattle.host.proofs.steps.submit.Statement.{statement}
 use Rattle.host.proofs.steps.submit.Tie as tie
 
-entry-place-requires : tie.Need-entry-place-requires
-entry-place-requires c κs = search needs
-
-entry-size-requires : tie.Need-entry-size-requires
-entry-size-requires c κs = search needs
-
-add-end : tie.Need-add-end
-add-end c = search needs
-
-mul-submit-entry : tie.Need-mul-submit-entry
-mul-submit-entry c = search needs
-
-sub-submit-entry : tie.Need-sub-submit-entry
-sub-submit-entry c = search needs
-
-part-submit-entry-start : tie.Need-part-submit-entry-start
-part-submit-entry-start c = search needs
-
-part-submit-entry-end : tie.Need-part-submit-entry-end
-part-submit-entry-end c = search needs
-
 submit-entry-requires : tie.Need-submit-entry-requires
 submit-entry-requires c κs =
     lent-entry (lent (c .before .before .before .before .pre) (c .before .before .entry-place .ensures) (c .before .entry-size .ensures))
-
-same-length : tie.Need-same-length
-same-length c = search needs
 
 returns : tie.Need-returns
 returns c =
@@ -70,13 +46,13 @@ pub submit-spec : {M : Type 1} → statement M
 submit-spec =
     tie.close
     (tie.spec
-    entry-place-requires
-    entry-size-requires
-    add-end
-    mul-submit-entry
-    sub-submit-entry
-    part-submit-entry-start
-    part-submit-entry-end
+    (λ c κs. search needs)
+    (λ c κs. search needs)
+    (λ c. search needs)
+    (λ c. search needs)
+    (λ c. search needs)
+    (λ c. search needs)
+    (λ c. search needs)
     submit-entry-requires
-    same-length
+    (λ c. search needs)
     returns)

@@ -7,15 +7,9 @@ use Rattle.laws.proofs.Tests.{refused, allowed}
 use Rattle.member.proofs.answers.begin_answer.Statement.{statement}
 use Rattle.member.proofs.answers.begin_answer.Tie as tie
 
-is-numbered-requires : tie.Need-is-numbered-requires
-is-numbered-requires c κs = search needs
-
 returns : tie.Need-returns
 unfolding beginAnswer
 returns c = rw (refused (c .before .is-numbered .ensures) (c .if1 .taken))
-
-is-numbered-requires-2 : tie.Need-is-numbered-requires-2
-is-numbered-requires-2 c κs = search needs
 
 returns-2 : tie.Need-returns-2
 unfolding beginAnswer
@@ -25,9 +19,6 @@ returns-2 c =
       refused (c .before .is-numbered2 .ensures) (c .if2 .taken),
     )
 
-is-operation-requires : tie.Need-is-operation-requires
-is-operation-requires c κs = search needs
-
 returns-3 : tie.Need-returns-3
 unfolding beginAnswer
 returns-3 c =
@@ -36,9 +27,6 @@ returns-3 c =
       allowed (c .before .before .before .is-numbered2 .ensures) (c .before .before .if2 .left),
       refused (c .before .is-operation .ensures) (c .if3 .taken),
     )
-
-is-barred-requires : tie.Need-is-barred-requires
-is-barred-requires c κs = search needs
 
 returns-4 : tie.Need-returns-4
 unfolding beginAnswer
@@ -103,13 +91,13 @@ pub begin-answer-spec : {M : Type 1} → statement M
 begin-answer-spec =
     tie.close
     (tie.spec
-    is-numbered-requires
+    (λ c κs. search needs)
     returns
-    is-numbered-requires-2
+    (λ c κs. search needs)
     returns-2
-    is-operation-requires
+    (λ c κs. search needs)
     returns-3
-    is-barred-requires
+    (λ c κs. search needs)
     returns-4
     returns-5
     returns-6

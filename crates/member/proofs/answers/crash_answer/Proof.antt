@@ -6,9 +6,6 @@ use Rattle.laws.proofs.Tests.{refused, allowed}
 use Rattle.member.proofs.answers.crash_answer.Statement.{statement}
 use Rattle.member.proofs.answers.crash_answer.Tie as tie
 
-is-numbered-requires : tie.Need-is-numbered-requires
-is-numbered-requires c κs = search needs
-
 returns : tie.Need-returns
 unfolding crashAnswer
 returns c = rw (refused (c .before .is-numbered .ensures) (c .if1 .taken))
@@ -40,4 +37,4 @@ returns-4 c =
     )
 
 pub crash-answer-spec : {M : Type 1} → statement M
-crash-answer-spec = tie.close (tie.spec is-numbered-requires returns returns-2 returns-3 returns-4)
+crash-answer-spec = tie.close (tie.spec (λ c κs. search needs) returns returns-2 returns-3 returns-4)

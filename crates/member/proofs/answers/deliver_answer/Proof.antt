@@ -6,9 +6,6 @@ use Rattle.laws.proofs.Tests.{refused, allowed}
 use Rattle.member.proofs.answers.deliver_answer.Statement.{statement}
 use Rattle.member.proofs.answers.deliver_answer.Tie as tie
 
-is-numbered-requires : tie.Need-is-numbered-requires
-is-numbered-requires c κs = search needs
-
 returns : tie.Need-returns
 unfolding deliverAnswer
 returns c = rw (refused (c .before .is-numbered .ensures) (c .if1 .taken))
@@ -93,7 +90,7 @@ pub deliver-answer-spec : {M : Type 1} → statement M
 deliver-answer-spec =
     tie.close
     (tie.spec
-    is-numbered-requires
+    (λ c κs. search needs)
     returns
     returns-2
     returns-3

@@ -53,9 +53,6 @@ judged c newest stored i seals =
     (c .before .before .before .before .pre .1 .1)
     (c .load-row .ensures ∙ ap (λ k. rowOf (g .n) (from w k)) (at .accepted))
 
-layout-requires : tie.Need-layout-requires
-layout-requires c κs = search needs
-
 shared-slice-read-slot : tie.Need-shared-slice-read-slot
 shared-slice-read-slot c = omega (arith, head-room (c .before .before .before .args .n))
 
@@ -121,9 +118,6 @@ returns-5 c =
       refused (c .before .check-25 .ensures) (c .if5 .taken),
     ))
 
-check-26-requires : tie.Need-check-26-requires
-check-26-requires c κs = search needs
-
 returns-6 : tie.Need-returns-6
 returns-6 c =
     sym (judged (c .before .before .before .before .before .before .before .before .before .before .before .before .before .before) _ _ _ _ ∙ rw (
@@ -169,7 +163,7 @@ pub halt-number-spec : {M : Type 1} → statement M
 halt-number-spec =
     tie.close
     (tie.spec
-    layout-requires
+    (λ c κs. search needs)
     shared-slice-read-slot
     cast-slot
     load-row-requires
@@ -182,7 +176,7 @@ halt-number-spec =
     returns-4
     check-25-requires
     returns-5
-    check-26-requires
+    (λ c κs. search needs)
     returns-6
     check-27-requires
     returns-7

@@ -7,9 +7,6 @@ use Rattle.laws.proofs.Tests.{refused, allowed}
 use Rattle.member.proofs.marks.sound_operation.Statement.{statement}
 use Rattle.member.proofs.marks.sound_operation.Tie as tie
 
-is-numbered-requires : tie.Need-is-numbered-requires
-is-numbered-requires c κs = search needs
-
 returns : tie.Need-returns
 returns c = rw (refused (c .before .is-numbered .ensures) (c .if1 .taken))
 
@@ -28,9 +25,6 @@ returns-3 c =
       lt-leb 1 _ (c .if3 .taken),
     )
 
-is-barred-requires : tie.Need-is-barred-requires
-is-barred-requires c κs = search needs
-
 returns-4 : tie.Need-returns-4
 returns-4 c =
     rw (
@@ -42,4 +36,4 @@ returns-4 c =
 pub sound-operation-spec : {M : Type 1} → statement M
 sound-operation-spec =
     tie.close
-    (tie.spec is-numbered-requires returns returns-2 returns-3 is-barred-requires returns-4)
+    (tie.spec (λ c κs. search needs) returns returns-2 returns-3 (λ c κs. search needs) returns-4)

@@ -6,9 +6,6 @@ use Rattle.member.proofs.Refusals.{good, refused-first, passed-first}
 use Rattle.member.proofs.numbers.begin_number.Statement.{statement}
 use Rattle.member.proofs.numbers.begin_number.Tie as tie
 
-member-number-requires : tie.Need-member-number-requires
-member-number-requires c κs = search needs
-
 returns : tie.Need-returns
 unfolding memberBeginNumber
 returns c = refused-first _ (c .before .member-number .ensures) (c .if1 .taken)
@@ -23,4 +20,4 @@ unfolding memberBeginNumber
 returns-2 c = passed-first (c .before .before .member-number .ensures) (c .before .if1 .left) (c .begin-refusal .ensures)
 
 pub begin-number-spec : {M : Type 1} → statement M
-begin-number-spec = tie.close (tie.spec member-number-requires returns begin-refusal-requires returns-2)
+begin-number-spec = tie.close (tie.spec (λ c κs. search needs) returns begin-refusal-requires returns-2)

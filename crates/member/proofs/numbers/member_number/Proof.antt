@@ -10,9 +10,6 @@ use Rattle.laws.proofs.Tests.{refused, allowed}
 use Rattle.member.proofs.numbers.member_number.Statement.{statement}
 use Rattle.member.proofs.numbers.member_number.Tie as tie
 
-is-numbered-requires : tie.Need-is-numbered-requires
-is-numbered-requires c κs = search needs
-
 returns : tie.Need-returns
 unfolding memberNumber
 returns c = rw (refused (c .before .is-numbered .ensures) (c .if1 .taken))
@@ -44,9 +41,6 @@ returns-3 c =
       refused (c .before .sound-block .ensures) (c .if3 .taken),
     )
 
-is-numbered-requires-2 : tie.Need-is-numbered-requires-2
-is-numbered-requires-2 c κs = search needs
-
 returns-4 : tie.Need-returns-4
 unfolding memberNumber blockNumber
 returns-4 c =
@@ -73,12 +67,12 @@ pub member-number-spec : {M : Type 1} → statement M
 member-number-spec =
     tie.close
     (tie.spec
-    is-numbered-requires
+    (λ c κs. search needs)
     returns
     layout-requires
     returns-2
     sound-block-requires
     returns-3
-    is-numbered-requires-2
+    (λ c κs. search needs)
     returns-4
     returns-5)

@@ -11,18 +11,12 @@ use Rattle.member.proofs.Refusals.{refused-waiting, passed-waiting}
 use Rattle.member.proofs.numbers.outcome_number.Statement.{statement}
 use Rattle.member.proofs.numbers.outcome_number.Tie as tie
 
-waiting-number-requires : tie.Need-waiting-number-requires
-waiting-number-requires c κs = search needs
-
 returns : tie.Need-returns
 unfolding outcomeNumber
 returns c =
     let a = (c .before .before .before .args) in
     refused-waiting (memberNumber concur (a .n) (a .member) (a .block .now)) (notWaiting 3 (memberOf (a .n) (words (a .block .now))))
     (cond (not (inside 2 (a .result))) 15 0) (c .before .waiting-number .ensures) (c .if1 .taken)
-
-is-numbered-requires : tie.Need-is-numbered-requires
-is-numbered-requires c κs = search needs
 
 returns-2 : tie.Need-returns-2
 unfolding outcomeNumber
@@ -40,4 +34,4 @@ returns-3 c =
 
 pub outcome-number-spec : {M : Type 1} → statement M
 outcome-number-spec =
-    tie.close (tie.spec waiting-number-requires returns is-numbered-requires returns-2 returns-3)
+    tie.close (tie.spec (λ c κs. search needs) returns (λ c κs. search needs) returns-2 returns-3)

@@ -33,9 +33,6 @@ module _ (n i : ℕ) (l : List ℕ) (newest stored : Rec) (seals : ℕ) where
   unfolding replyNumber fitRecord recordWithin
   judged e z h = passed-waiting (memberNumber concur n i l) (notWaiting 1 (memberOf n (words l))) fields e z h
 
-waiting-number-requires : tie.Need-waiting-number-requires
-waiting-number-requires c κs = search needs
-
 returns : tie.Need-returns
 returns c =
     let a = (c .before .before .before .args) in
@@ -47,17 +44,11 @@ returns-2 c =
     judged (a .n) (a .member) (a .block .now) (recordIn (a .newest)) (recordIn (a .stored)) (a .seals) (c .before .before .waiting-number .ensures) (c .before .if1 .left)
     (rw (lt-leb _ 3 (c .if2 .taken)))
 
-fits-requires : tie.Need-fits-requires
-fits-requires c κs = search needs
-
 returns-3 : tie.Need-returns-3
 returns-3 c =
     let a = (c .before .before .before .before .before .before .args) in
     judged (a .n) (a .member) (a .block .now) (recordIn (a .newest)) (recordIn (a .stored)) (a .seals) (c .before .before .before .before .waiting-number .ensures) (c .before .before .before .if1 .left)
     (rw (le-leb _ 3 (c .before .before .if2 .left), refused (c .before .fits2 .ensures) (c .if3 .taken)))
-
-fits-requires-2 : tie.Need-fits-requires-2
-fits-requires-2 c κs = search needs
 
 returns-4 : tie.Need-returns-4
 returns-4 c =
@@ -75,11 +66,11 @@ pub reply-number-spec : {M : Type 1} → statement M
 reply-number-spec =
     tie.close
     (tie.spec
-    waiting-number-requires
+    (λ c κs. search needs)
     returns
     returns-2
-    fits-requires
+    (λ c κs. search needs)
     returns-3
-    fits-requires-2
+    (λ c κs. search needs)
     returns-4
     returns-5)

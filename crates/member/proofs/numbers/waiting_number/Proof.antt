@@ -10,9 +10,6 @@ use Rattle.member.proofs.Refusals.{good, refused-first, passed-first}
 use Rattle.member.proofs.numbers.waiting_number.Statement.{statement}
 use Rattle.member.proofs.numbers.waiting_number.Tie as tie
 
-member-number-requires : tie.Need-member-number-requires
-member-number-requires c κs = search needs
-
 returns : tie.Need-returns
 returns c = refused-first _ (c .before .member-number .ensures) (c .if1 .taken)
 
@@ -44,7 +41,7 @@ pub waiting-number-spec : {M : Type 1} → statement M
 waiting-number-spec =
     tie.close
     (tie.spec
-    member-number-requires
+    (λ c κs. search needs)
     returns
     shared-slice-read-if2
     returns-2

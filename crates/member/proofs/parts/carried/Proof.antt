@@ -7,11 +7,8 @@ use Rattle.member.proofs.parts.carried.Tie as tie
 returns : tie.Need-returns
 returns c = rw (eq-eqb (c .before .before .args .operation) 2 (c .if1 .taken))
 
-load-value-requires : tie.Need-load-value-requires
-load-value-requires c κs = search needs
-
 returns-2 : tie.Need-returns-2
 returns-2 c = rw (ne-eqb (c .before .before .before .args .operation) 2 (c .before .if1 .left)) (c .load-value .ensures)
 
 pub carried-spec : {M : Type 1} → statement M
-carried-spec = tie.close (tie.spec returns load-value-requires returns-2)
+carried-spec = tie.close (tie.spec returns (λ c κs. search needs) returns-2)

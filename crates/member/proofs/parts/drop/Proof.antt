@@ -12,15 +12,9 @@ use Rattle.member.proofs.Laws.{whole}
 use Rattle.member.proofs.parts.drop.Statement.{statement}
 use Rattle.member.proofs.parts.drop.Tie as tie
 
-layout-requires : tie.Need-layout-requires
-layout-requires c κs = search needs
-
 clear-requires : tie.Need-clear-requires
 unfolding blockSize secondAt firstAt knownAt pendingAt lastAt acceptedAt
 clear-requires c κs = omega arith
-
-record-size-requires : tie.Need-record-size-requires
-record-size-requires c κs = search needs
 
 mul-clear : tie.Need-mul-clear
 mul-clear c = record { fits = omega (arith, recordSize-small (c .before .before .before .before .before .before .before .before .args .n) (c .before .before .before .before .before .before .before .before .pre .most)) }
@@ -59,9 +53,9 @@ pub drop-spec : {M : Type 1} → statement M
 drop-spec =
     tie.close
     (tie.spec
-    layout-requires
+    (λ c κs. search needs)
     clear-requires
-    record-size-requires
+    (λ c κs. search needs)
     mul-clear
     clear-requires-2
     slice-write-block

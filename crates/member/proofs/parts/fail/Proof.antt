@@ -12,12 +12,6 @@ use Rattle.member.proofs.Laws.{whole}
 use Rattle.member.proofs.parts.fail.Statement.{statement}
 use Rattle.member.proofs.parts.fail.Tie as tie
 
-layout-requires : tie.Need-layout-requires
-layout-requires c κs = search needs
-
-record-size-requires : tie.Need-record-size-requires
-record-size-requires c κs = search needs
-
 mul-messages : tie.Need-mul-messages
 mul-messages c = record { fits = omega (arith, recordSize-small (c .before .before .before .args .n) (c .before .before .before .pre .most)) }
 
@@ -33,9 +27,6 @@ slice-write-block-2 : tie.Need-slice-write-block-2
 unfolding blockSize secondAt firstAt knownAt pendingAt lastAt acceptedAt
 slice-write-block-2 c = simp length-set (omega arith)
 
-same-length : tie.Need-same-length
-same-length c = search needs
-
 returns : tie.Need-returns
 unfolding blockSize secondAt firstAt knownAt pendingAt lastAt acceptedAt
 returns c =
@@ -50,11 +41,11 @@ pub fail-spec : {M : Type 1} → statement M
 fail-spec =
     tie.close
     (tie.spec
-    layout-requires
-    record-size-requires
+    (λ c κs. search needs)
+    (λ c κs. search needs)
     mul-messages
     clear-requires
     slice-write-block
     slice-write-block-2
-    same-length
+    (λ c. search needs)
     returns)

@@ -11,9 +11,6 @@ use Rattle.member.proofs.Laws.{whole}
 use Rattle.member.proofs.parts.note.Statement.{statement}
 use Rattle.member.proofs.parts.note.Tie as tie
 
-layout-requires : tie.Need-layout-requires
-layout-requires c κs = search needs
-
 store-record-requires : tie.Need-store-record-requires
 unfolding blockSize secondAt
 store-record-requires c κs = (search needs, omega arith)
@@ -44,7 +41,7 @@ pub note-spec : {M : Type 1} → statement M
 note-spec =
     tie.close
     (tie.spec
-    layout-requires
+    (λ c κs. search needs)
     store-record-requires
     store-record-requires-2
     slice-write-block

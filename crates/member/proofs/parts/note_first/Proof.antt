@@ -10,9 +10,6 @@ use Rattle.member.proofs.Laws.{whole, first-noted-by}
 use Rattle.member.proofs.parts.note_first.Statement.{statement}
 use Rattle.member.proofs.parts.note_first.Tie as tie
 
-layout-requires : tie.Need-layout-requires
-layout-requires c κs = search needs
-
 store-record-requires : tie.Need-store-record-requires
 unfolding blockSize secondAt
 store-record-requires c κs = (search needs, omega arith)
@@ -37,4 +34,4 @@ returns c =
 pub note-first-spec : {M : Type 1} → statement M
 note-first-spec =
     tie.close
-    (tie.spec layout-requires store-record-requires slice-write-block same-length returns)
+    (tie.spec (λ c κs. search needs) store-record-requires slice-write-block same-length returns)

@@ -7,9 +7,6 @@ use Rattle.member.proofs.Laws.{own-built}
 use Rattle.member.proofs.parts.own_record.Statement.{statement}
 use Rattle.member.proofs.parts.own_record.Tie as tie
 
-layout-requires : tie.Need-layout-requires
-layout-requires c κs = search needs
-
 shared-slice-read-slot : tie.Need-shared-slice-read-slot
 unfolding blockSize secondAt firstAt knownAt pendingAt lastAt acceptedAt memberOf
 shared-slice-read-slot c = omega arith
@@ -21,9 +18,6 @@ cast-count c = record { fits = omega arith }
 add-count : tie.Need-add-count
 unfolding memberOf
 add-count c = record { fits = omega arith }
-
-sub-count : tie.Need-sub-count
-sub-count c = search needs
 
 mul-count : tie.Need-mul-count
 unfolding memberOf
@@ -62,11 +56,11 @@ pub own-record-spec : {M : Type 1} → statement M
 own-record-spec =
     tie.close
     (tie.spec
-    layout-requires
+    (λ c κs. search needs)
     shared-slice-read-slot
     cast-count
     add-count
-    sub-count
+    (λ c. search needs)
     mul-count
     shared-slice-read-count
     load-value-requires

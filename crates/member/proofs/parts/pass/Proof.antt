@@ -14,9 +14,6 @@ own-record-requires c κs = (c .before .before .pre)
 note-requires : tie.Need-note-requires
 note-requires c κs = c .before .before .before .before .pre .0 .block
 
-same-length : tie.Need-same-length
-same-length c = search needs
-
 returns : tie.Need-returns
 unfolding passed
 returns c =
@@ -25,4 +22,4 @@ returns c =
     c .before .before .note .ensures ∙ ap (λ r. moved m 3 (m .halt) r (recordWithin (a .n) (recordIn (a .stored)))) (c .before .before .before .before .own-record .ensures)
 
 pub pass-spec : {M : Type 1} → statement M
-pass-spec = tie.close (tie.spec own-record-requires note-requires same-length returns)
+pass-spec = tie.close (tie.spec own-record-requires note-requires (λ c. search needs) returns)

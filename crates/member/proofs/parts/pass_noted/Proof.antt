@@ -12,9 +12,6 @@ own-record-requires c κs = (c .before .before .pre)
 note-first-requires : tie.Need-note-first-requires
 note-first-requires c κs = c .before .before .before .before .pre .0 .block
 
-same-length : tie.Need-same-length
-same-length c = search needs
-
 returns : tie.Need-returns
 unfolding passed
 returns c =
@@ -23,4 +20,4 @@ returns c =
     c .before .before .note-first .ensures ∙ ap (λ r. moved m 3 (m .halt) r (m .second)) (c .before .before .before .before .own-record .ensures)
 
 pub pass-noted-spec : {M : Type 1} → statement M
-pass-noted-spec = tie.close (tie.spec own-record-requires note-first-requires same-length returns)
+pass-noted-spec = tie.close (tie.spec own-record-requires note-first-requires (λ c. search needs) returns)

@@ -13,9 +13,6 @@ use Rattle.member.proofs.Laws.{kept-held}
 use Rattle.member.proofs.parts.take_over.Statement.{statement}
 use Rattle.member.proofs.parts.take_over.Tie as tie
 
-layout-requires : tie.Need-layout-requires
-layout-requires c κs = search needs
-
 slice-read-slot : tie.Need-slice-read-slot
 unfolding blockSize secondAt firstAt knownAt pendingAt lastAt acceptedAt recordSize memberOf
 slice-read-slot c = omega arith
@@ -31,9 +28,6 @@ slice-read-operation c = omega arith
 add-block : tie.Need-add-block
 unfolding memberOf
 add-block c = record { fits = omega arith }
-
-sub-block : tie.Need-sub-block
-sub-block c = search needs
 
 mul-block : tie.Need-mul-block
 unfolding memberOf
@@ -104,12 +98,12 @@ pub take-over-spec : {M : Type 1} → statement M
 take-over-spec =
     tie.close
     (tie.spec
-    layout-requires
+    (λ c κs. search needs)
     slice-read-slot
     cast-slot
     slice-read-operation
     add-block
-    sub-block
+    (λ c. search needs)
     mul-block
     slice-read-block
     add-block-2

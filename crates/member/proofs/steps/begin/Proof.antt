@@ -12,21 +12,9 @@ use Rattle.member.proofs.Laws.{whole}
 use Rattle.member.proofs.steps.begin.Statement.{statement}
 use Rattle.member.proofs.steps.begin.Tie as tie
 
-layout-requires : tie.Need-layout-requires
-layout-requires c κs = search needs
-
 carried-requires : tie.Need-carried-requires
 unfolding blockSize secondAt firstAt knownAt pendingAt lastAt acceptedAt
 carried-requires c κs = omega arith
-
-add-own : tie.Need-add-own
-add-own c = search needs
-
-sub-own : tie.Need-sub-own
-sub-own c = search needs
-
-mul-block : tie.Need-mul-block
-mul-block c = search needs
 
 slice-read-block : tie.Need-slice-read-block
 unfolding blockSize secondAt firstAt knownAt pendingAt lastAt acceptedAt
@@ -38,9 +26,6 @@ add-block c =
     let a = (c .before .before .before .before .before .args) in
     let p = (c .before .before .before .before .before .pre) in
     record { fits = omega (arith, p .1 .1, count-of (a .n) (words (a .block .now)) 5 (a .slot) (p .1 .0 .least) (p .1 .0 .most)) }
-
-mul-block-2 : tie.Need-mul-block-2
-mul-block-2 c = search needs
 
 slice-write-block : tie.Need-slice-write-block
 unfolding blockSize secondAt firstAt knownAt pendingAt lastAt acceptedAt
@@ -85,14 +70,14 @@ pub begin-spec : {M : Type 1} → statement M
 begin-spec =
     tie.close
     (tie.spec
-    layout-requires
+    (λ c κs. search needs)
     carried-requires
-    add-own
-    sub-own
-    mul-block
+    (λ c. search needs)
+    (λ c. search needs)
+    (λ c. search needs)
     slice-read-block
     add-block
-    mul-block-2
+    (λ c. search needs)
     slice-write-block
     store-value-requires
     slice-write-block-2

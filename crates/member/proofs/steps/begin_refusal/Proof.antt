@@ -10,17 +10,11 @@ use Rattle.member.proofs.Sizes.{head-room}
 use Rattle.member.proofs.steps.begin_refusal.Statement.{statement}
 use Rattle.member.proofs.steps.begin_refusal.Tie as tie
 
-own-count-requires : tie.Need-own-count-requires
-own-count-requires c κs = search needs
-
 shared-slice-read-begin-answer : tie.Need-shared-slice-read-begin-answer
 shared-slice-read-begin-answer c = omega (arith, head-room (c .before .before .before .args .n))
 
 shared-slice-read-begin-answer-2 : tie.Need-shared-slice-read-begin-answer-2
 shared-slice-read-begin-answer-2 c = omega (arith, head-room (c .before .before .before .before .args .n))
-
-begin-answer-requires : tie.Need-begin-answer-requires
-begin-answer-requires c κs = search needs
 
 returns : tie.Need-returns
 unfolding memberOf
@@ -34,8 +28,8 @@ pub begin-refusal-spec : {M : Type 1} → statement M
 begin-refusal-spec =
     tie.close
     (tie.spec
-    own-count-requires
+    (λ c κs. search needs)
     shared-slice-read-begin-answer
     shared-slice-read-begin-answer-2
-    begin-answer-requires
+    (λ c κs. search needs)
     returns)

@@ -10,9 +10,6 @@ use Rattle.member.proofs.Laws.{sent-built}
 use Rattle.member.proofs.steps.commit_of.Statement.{statement}
 use Rattle.member.proofs.steps.commit_of.Tie as tie
 
-layout-requires : tie.Need-layout-requires
-layout-requires c κs = search needs
-
 shared-slice-read-slot : tie.Need-shared-slice-read-slot
 shared-slice-read-slot c = omega (arith, head-room (c .before .before .before .args .n))
 
@@ -47,9 +44,6 @@ add-t12 : tie.Need-add-t12
 unfolding memberOf
 add-t12 c = record { fits = omega arith }
 
-sub-t13 : tie.Need-sub-t13
-sub-t13 c = search needs
-
 mul-t14 : tie.Need-mul-t14
 unfolding memberOf
 mul-t14 c = record { fits = omega arith }
@@ -71,7 +65,7 @@ pub commit-of-spec : {M : Type 1} → statement M
 commit-of-spec =
     tie.close
     (tie.spec
-    layout-requires
+    (λ c κs. search needs)
     shared-slice-read-slot
     add-load-value
     load-value-requires
@@ -80,7 +74,7 @@ commit-of-spec =
     shared-slice-read-t9
     cast-t10
     add-t12
-    sub-t13
+    (λ c. search needs)
     mul-t14
     shared-slice-read-t16
     returns)

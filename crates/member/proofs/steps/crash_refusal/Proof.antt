@@ -12,9 +12,6 @@ shared-slice-read-crash-answer c = omega (arith, head-room (c .before .before .a
 shared-slice-read-crash-answer-2 : tie.Need-shared-slice-read-crash-answer-2
 shared-slice-read-crash-answer-2 c = omega (arith, head-room (c .before .before .before .args .n))
 
-crash-answer-requires : tie.Need-crash-answer-requires
-crash-answer-requires c κs = search needs
-
 returns : tie.Need-returns
 unfolding memberOf
 returns c = c .crash-answer .ensures
@@ -25,5 +22,5 @@ crash-refusal-spec =
     (tie.spec
     shared-slice-read-crash-answer
     shared-slice-read-crash-answer-2
-    crash-answer-requires
+    (λ c κs. search needs)
     returns)

@@ -12,9 +12,6 @@ shared-slice-read-deliver-answer c = omega (arith, head-room (c .before .before 
 shared-slice-read-deliver-answer-2 : tie.Need-shared-slice-read-deliver-answer-2
 shared-slice-read-deliver-answer-2 c = omega (arith, head-room (c .before .before .before .args .n))
 
-deliver-answer-requires : tie.Need-deliver-answer-requires
-deliver-answer-requires c κs = search needs
-
 returns : tie.Need-returns
 unfolding memberOf
 returns c = c .deliver-answer .ensures
@@ -25,5 +22,5 @@ deliver-refusal-spec =
     (tie.spec
     shared-slice-read-deliver-answer
     shared-slice-read-deliver-answer-2
-    deliver-answer-requires
+    (λ c κs. search needs)
     returns)

@@ -14,21 +14,12 @@ use Rattle.member.proofs.Laws.{second-value, none-taken, value-taken, c
 use Rattle.member.proofs.steps.finish.Statement.{statement}
 use Rattle.member.proofs.steps.finish.Tie as tie
 
-drop-requires : tie.Need-drop-requires
-drop-requires c κs = search needs
-
-same-length : tie.Need-same-length
-same-length c = search needs
-
 returns : tie.Need-returns
 unfolding outcome
 returns c =
     let a = (c .before .before .before .before .before .before .args) in
     let m = memberOf (a .n) (words (a .block .now)) in
     rw (not-true (a .accepted) (c .before .before .before .before .if1 .taken)) (none-taken m false refl, c .before .before .drop .ensures)
-
-layout-requires : tie.Need-layout-requires
-layout-requires c κs = search needs
 
 add-load-value : tie.Need-add-load-value
 unfolding blockSize
@@ -41,15 +32,6 @@ load-value-requires c κs = omega arith
 slice-read-operation : tie.Need-slice-read-operation
 slice-read-operation c = omega (arith, block-sum (c .before .before .before .before .before .before .before .args .n))
 
-take-over-requires : tie.Need-take-over-requires
-take-over-requires c κs = search needs
-
-drop-requires-2 : tie.Need-drop-requires-2
-drop-requires-2 c κs = search needs
-
-same-length-2 : tie.Need-same-length-2
-same-length-2 c = search needs
-
 returns-2 : tie.Need-returns-2
 unfolding outcome memberOf
 returns-2 c =
@@ -60,9 +42,6 @@ returns-2 c =
       value-taken m (c .before .before .before .before .before .before .before .before .before .before .load-value .result) (eq-eqb (w 4) 1 (c .if2 .taken)) ((rw (c .before .before .before .before .before .before .before .before .before .before .before .before .before .layout .ensures .second) at (c .before .before .before .before .before .before .before .before .before .before .load-value .ensures)) ∙ second-value (a .n) w),
       c .before .before .before .drop2 .ensures ∙ ap dropped (c .before .before .before .before .before .before .before .take-over .ensures) ∙ sym (completed-by m),
     )
-
-same-length-3 : tie.Need-same-length-3
-same-length-3 c = search needs
 
 returns-3 : tie.Need-returns-3
 unfolding outcome memberOf
@@ -79,16 +58,16 @@ pub finish-spec : {M : Type 1} → statement M
 finish-spec =
     tie.close
     (tie.spec
-    drop-requires
-    same-length
+    (λ c κs. search needs)
+    (λ c. search needs)
     returns
-    layout-requires
+    (λ c κs. search needs)
     add-load-value
     load-value-requires
     slice-read-operation
-    take-over-requires
-    drop-requires-2
-    same-length-2
+    (λ c κs. search needs)
+    (λ c κs. search needs)
+    (λ c. search needs)
     returns-2
-    same-length-3
+    (λ c. search needs)
     returns-3)

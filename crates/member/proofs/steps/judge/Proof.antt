@@ -14,9 +14,6 @@ use Rattle.member.proofs.steps.judge.Tie as tie
 slice-write-block : tie.Need-slice-write-block
 slice-write-block c = omega (arith, block-sum (c .before .args .n))
 
-same-length : tie.Need-same-length
-same-length c = search needs
-
 returns : tie.Need-returns
 returns c =
     let a = (c .before .args) in
@@ -24,9 +21,6 @@ returns c =
 
 slice-write-block-2 : tie.Need-slice-write-block-2
 slice-write-block-2 c = omega (arith, block-sum (c .before .args .n))
-
-same-length-2 : tie.Need-same-length-2
-same-length-2 c = search needs
 
 returns-2 : tie.Need-returns-2
 returns-2 c =
@@ -36,4 +30,4 @@ returns-2 c =
 pub judge-spec : {M : Type 1} → statement M
 judge-spec =
     tie.close
-    (tie.spec slice-write-block same-length returns slice-write-block-2 same-length-2 returns-2)
+    (tie.spec slice-write-block (λ c. search needs) returns slice-write-block-2 (λ c. search needs) returns-2)

@@ -13,13 +13,10 @@ use Rattle.member.proofs.steps.mark_crashed.Tie as tie
 slice-write-block : tie.Need-slice-write-block
 slice-write-block c = omega (arith, block-sum (c .args .n))
 
-same-length : tie.Need-same-length
-same-length c = search needs
-
 returns : tie.Need-returns
 returns c =
     let a = (c .args) in
     ap (memberOf (a .n)) (holds-set (whole (c .pre)) 1 1 (omega (arith, block-sum (a .n))) .same) ∙ crashed-by (a .n) (words (a .block .now))
 
 pub mark-crashed-spec : {M : Type 1} → statement M
-mark-crashed-spec = tie.close (tie.spec slice-write-block same-length returns)
+mark-crashed-spec = tie.close (tie.spec slice-write-block (λ c. search needs) returns)

@@ -12,23 +12,11 @@ use Rattle.member.proofs.Sizes.{own-room, own-at}
 use Rattle.member.proofs.steps.own_count.Statement.{statement}
 use Rattle.member.proofs.steps.own_count.Tie as tie
 
-is-numbered-requires : tie.Need-is-numbered-requires
-is-numbered-requires c κs = search needs
-
 returns : tie.Need-returns
 unfolding memberOf rowOf
 returns c =
     let a = (c .before .before .before .args) in
     sym (numbered-off (a .n) 0 (from (words (a .block .now)) ownAt) (a .slot) (refused (c .before .is-numbered .ensures) (c .if1 .taken)))
-
-add-at : tie.Need-add-at
-add-at c = search needs
-
-sub-at : tie.Need-sub-at
-sub-at c = search needs
-
-mul-result : tie.Need-mul-result
-mul-result c = search needs
 
 shared-slice-read-result : tie.Need-shared-slice-read-result
 shared-slice-read-result c =
@@ -47,10 +35,10 @@ pub own-count-spec : {M : Type 1} → statement M
 own-count-spec =
     tie.close
     (tie.spec
-    is-numbered-requires
+    (λ c κs. search needs)
     returns
-    add-at
-    sub-at
-    mul-result
+    (λ c. search needs)
+    (λ c. search needs)
+    (λ c. search needs)
     shared-slice-read-result
     returns-2)

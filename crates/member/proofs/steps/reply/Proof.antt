@@ -8,9 +8,6 @@ use Rattle.member.proofs.Laws.{known-loaded, replied-failed, replied-pa
 use Rattle.member.proofs.steps.reply.Statement.{statement}
 use Rattle.member.proofs.steps.reply.Tie as tie
 
-layout-requires : tie.Need-layout-requires
-layout-requires c κs = search needs
-
 load-matrix-requires : tie.Need-load-matrix-requires
 load-matrix-requires c κs = (search needs, omega (arith, known-room (c .before .before .before .args .n), c .before .layout .ensures .known))
 
@@ -20,9 +17,6 @@ halt-number-requires c κs = (c .before .before .before .before .before .pre .0,
 fail-requires : tie.Need-fail-requires
 fail-requires c κs = c .before .before .before .before .before .before .before .before .pre .0 .block
 
-same-length : tie.Need-same-length
-same-length c = search needs
-
 returns : tie.Need-returns
 returns c =
     let a = (c .before .before .before .before .before .before .before .before .before .before .before .args) in
@@ -31,9 +25,6 @@ returns c =
 
 pass-requires : tie.Need-pass-requires
 pass-requires c κs = (c .before .before .before .before .before .before .before .before .pre .0, (c .before .before .before .before .before .before .before .before .pre .1, known-loaded (c .before .before .before .before .before .before .before .before .args .n) (words (c .before .before .before .before .before .before .before .before .args .block .now)) (c .before .before .before .before .load-matrix .result) (c .before .before .before .before .before .before .layout .ensures) (c .before .before .before .before .load-matrix .ensures)))
-
-same-length-2 : tie.Need-same-length-2
-same-length-2 c = search needs
 
 returns-2 : tie.Need-returns-2
 returns-2 c =
@@ -45,12 +36,12 @@ pub reply-spec : {M : Type 1} → statement M
 reply-spec =
     tie.close
     (tie.spec
-    layout-requires
+    (λ c κs. search needs)
     load-matrix-requires
     halt-number-requires
     fail-requires
-    same-length
+    (λ c. search needs)
     returns
     pass-requires
-    same-length-2
+    (λ c. search needs)
     returns-2)

@@ -13,9 +13,6 @@ use Rattle.member.proofs.Laws.{known-loaded, replied-failed, replied-pa
 use Rattle.member.proofs.steps.reply_noted.Statement.{statement}
 use Rattle.member.proofs.steps.reply_noted.Tie as tie
 
-layout-requires : tie.Need-layout-requires
-layout-requires c κs = search needs
-
 load-matrix-requires : tie.Need-load-matrix-requires
 load-matrix-requires c κs = (search needs, omega (arith, known-room (c .before .before .before .args .n), c .before .layout .ensures .known))
 
@@ -33,9 +30,6 @@ halt-number-requires c κs = (c .before .before .before .before .before .before 
 fail-requires : tie.Need-fail-requires
 fail-requires c κs = c .before .before .before .before .before .before .before .before .before .before .before .before .pre .0 .block
 
-same-length : tie.Need-same-length
-same-length c = search needs
-
 returns : tie.Need-returns
 unfolding memberOf
 returns c =
@@ -51,9 +45,6 @@ returns c =
 
 pass-noted-requires : tie.Need-pass-noted-requires
 pass-noted-requires c κs = (c .before .before .before .before .before .before .before .before .before .before .before .before .pre .0, (c .before .before .before .before .before .before .before .before .before .before .before .before .pre .1, known-loaded (c .before .before .before .before .before .before .before .before .before .before .before .before .args .n) (words (c .before .before .before .before .before .before .before .before .before .before .before .before .args .block .now)) (c .before .before .before .before .before .before .before .before .load-matrix .result) (c .before .before .before .before .before .before .before .before .before .before .layout .ensures) (c .before .before .before .before .before .before .before .before .load-matrix .ensures)))
-
-same-length-2 : tie.Need-same-length-2
-same-length-2 c = search needs
 
 returns-2 : tie.Need-returns-2
 unfolding memberOf
@@ -73,14 +64,14 @@ pub reply-noted-spec : {M : Type 1} → statement M
 reply-noted-spec =
     tie.close
     (tie.spec
-    layout-requires
+    (λ c κs. search needs)
     load-matrix-requires
     load-record-requires
     load-record-requires-2
     halt-number-requires
     fail-requires
-    same-length
+    (λ c. search needs)
     returns
     pass-noted-requires
-    same-length-2
+    (λ c. search needs)
     returns-2)

@@ -38,9 +38,6 @@ judged c i =
     let g = c .before .before .args in
     by-words (g .n) i (words (g .block .now)) (c .layout .result .first) (c .layout .result .second) (c .layout .ensures .first) (c .layout .ensures .second)
 
-layout-requires : tie.Need-layout-requires
-layout-requires c κs = search needs
-
 shared-slice-read-phase : tie.Need-shared-slice-read-phase
 shared-slice-read-phase c = omega (arith, head-room (c .before .before .before .args .n))
 
@@ -55,9 +52,6 @@ shared-slice-read-sound-marks c = omega (arith, head-room (c .before .before .be
 
 shared-slice-read-sound-marks-2 : tie.Need-shared-slice-read-sound-marks-2
 shared-slice-read-sound-marks-2 c = omega (arith, head-room (c .before .before .before .before .before .before .before .args .n))
-
-sound-marks-requires : tie.Need-sound-marks-requires
-sound-marks-requires c κs = search needs
 
 returns : tie.Need-returns
 returns c = sym (judged (c .before .before .before .before .before .before .before) _ ∙ rw (refused (c .before .sound-marks .ensures) (c .if1 .taken)))
@@ -76,9 +70,6 @@ returns-3 c =
       le-leb _ _ (c .before .if2 .left),
       lt-leb _ 2 (c .if3 .taken),
     ))
-
-sound-operation-requires : tie.Need-sound-operation-requires
-sound-operation-requires c κs = search needs
 
 returns-4 : tie.Need-returns-4
 returns-4 c =
@@ -121,17 +112,17 @@ pub sound-block-spec : {M : Type 1} → statement M
 sound-block-spec =
     tie.close
     (tie.spec
-    layout-requires
+    (λ c κs. search needs)
     shared-slice-read-phase
     shared-slice-read-slot
     shared-slice-read-operation
     shared-slice-read-sound-marks
     shared-slice-read-sound-marks-2
-    sound-marks-requires
+    (λ c κs. search needs)
     returns
     returns-2
     returns-3
-    sound-operation-requires
+    (λ c κs. search needs)
     returns-4
     sound-record-requires
     returns-5

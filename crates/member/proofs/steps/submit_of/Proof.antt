@@ -19,9 +19,6 @@ add-count : tie.Need-add-count
 unfolding memberOf
 add-count c = record { fits = omega arith }
 
-sub-count : tie.Need-sub-count
-sub-count c = search needs
-
 mul-count : tie.Need-mul-count
 unfolding memberOf
 mul-count c = record { fits = omega arith }
@@ -45,7 +42,7 @@ submit-of-spec =
     shared-slice-read-slot
     cast-count
     add-count
-    sub-count
+    (λ c. search needs)
     mul-count
     shared-slice-read-count
     returns)

@@ -5,12 +5,6 @@ use Rattle.messages.specs.Meaning.{fieldsIn, fieldsOf}
 use Rattle.messages.proofs.Message.refused.Statement.{statement}
 use Rattle.messages.proofs.Message.refused.Tie as tie
 
-zero-requires : tie.Need-zero-requires
-zero-requires c κs = search needs
-
-zero-requires-2 : tie.Need-zero-requires-2
-zero-requires-2 c κs = search needs
-
 returns : tie.Need-returns
 unfolding fieldsIn fieldsOf
 returns c = (
@@ -28,4 +22,4 @@ returns c = (
 )
 
 pub refused-spec : {M : Type 1} → statement M
-refused-spec = tie.close (tie.spec zero-requires zero-requires-2 returns)
+refused-spec = tie.close (tie.spec (λ c κs. search needs) (λ c κs. search needs) returns)

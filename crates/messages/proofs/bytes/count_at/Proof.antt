@@ -11,15 +11,6 @@ use Rattle.laws.proofs.Messages.{numberIn-at}
 use Rattle.messages.proofs.bytes.count_at.Statement.{statement}
 use Rattle.messages.proofs.bytes.count_at.Tie as tie
 
-mul-read-number : tie.Need-mul-read-number
-mul-read-number c = search needs
-
-add-read-number : tie.Need-add-read-number
-add-read-number c = search needs
-
-read-number-requires : tie.Need-read-number-requires
-read-number-requires c κs = search needs
-
 returns : tie.Need-returns
 returns c =
     let a = c .before .before .before .args in
@@ -34,4 +25,4 @@ returns-2 c =
 
 pub count-at-spec : {M : Type 1} → statement M
 count-at-spec =
-    tie.close (tie.spec mul-read-number add-read-number read-number-requires returns returns-2)
+    tie.close (tie.spec (λ c. search needs) (λ c. search needs) (λ c κs. search needs) returns returns-2)

@@ -40,18 +40,6 @@ add-read-row c = record { fits = omega (arith, row-within (c .before .before .be
 read-row-requires : tie.Need-read-row-requires Inv-loop μ-loop
 read-row-requires c κs = (search needs, omega (arith, row-within (c .before .before .before .args .n) (c .before .loop .j) (omega arith)))
 
-mul-matrix : tie.Need-mul-matrix Inv-loop μ-loop
-mul-matrix c = search needs
-
-array-set-from-matrix : tie.Need-array-set-from-matrix Inv-loop μ-loop
-array-set-from-matrix c = search needs
-
-add-j : tie.Need-add-j Inv-loop μ-loop
-add-j c = search needs
-
-loop-less : tie.Need-loop-less Inv-loop μ-loop
-loop-less c = search needs
-
 loop-again : tie.Need-loop-again Inv-loop μ-loop
 loop-again c =
     let a = (c .before .before .before .before .args) in
@@ -87,9 +75,9 @@ read-matrix-spec =
     mul-read-row-2
     add-read-row
     read-row-requires
-    mul-matrix
-    array-set-from-matrix
-    add-j
-    loop-less
+    (λ c. search needs)
+    (λ c. search needs)
+    (λ c. search needs)
+    (λ c. search needs)
     loop-again
     returns)

@@ -37,9 +37,6 @@ shared-slice-read-wide : tie.Need-shared-slice-read-wide
 unfolding recordLength
 shared-slice-read-wide c = omega arith
 
-wide-requires : tie.Need-wide-requires
-wide-requires c κs = search needs
-
 add-wide : tie.Need-add-wide
 unfolding recordLength
 add-wide c = record { fits = omega arith }
@@ -48,9 +45,6 @@ shared-slice-read-wide-2 : tie.Need-shared-slice-read-wide-2
 unfolding recordLength
 shared-slice-read-wide-2 c = omega arith
 
-wide-requires-2 : tie.Need-wide-requires-2
-wide-requires-2 c κs = search needs
-
 add-wide-2 : tie.Need-add-wide-2
 unfolding recordLength
 add-wide-2 c = record { fits = omega arith }
@@ -58,9 +52,6 @@ add-wide-2 c = record { fits = omega arith }
 shared-slice-read-wide-3 : tie.Need-shared-slice-read-wide-3
 unfolding recordLength
 shared-slice-read-wide-3 c = omega arith
-
-wide-requires-3 : tie.Need-wide-requires-3
-wide-requires-3 c κs = search needs
 
 returns : tie.Need-returns
 unfolding recordIn
@@ -87,11 +78,11 @@ read-record-spec =
     add-read-number
     read-number-requires
     shared-slice-read-wide
-    wide-requires
+    (λ c κs. search needs)
     add-wide
     shared-slice-read-wide-2
-    wide-requires-2
+    (λ c κs. search needs)
     add-wide-2
     shared-slice-read-wide-3
-    wide-requires-3
+    (λ c κs. search needs)
     returns)

@@ -8,42 +8,6 @@ use Rattle.messages.proofs.Laws.{row-named}
 use Rattle.messages.proofs.bytes.read_row.Statement.{statement}
 use Rattle.messages.proofs.bytes.read_row.Tie as tie
 
-count-at-requires : tie.Need-count-at-requires
-count-at-requires c κs = search needs
-
-count-at-requires-2 : tie.Need-count-at-requires-2
-count-at-requires-2 c κs = search needs
-
-count-at-requires-3 : tie.Need-count-at-requires-3
-count-at-requires-3 c κs = search needs
-
-count-at-requires-4 : tie.Need-count-at-requires-4
-count-at-requires-4 c κs = search needs
-
-count-at-requires-5 : tie.Need-count-at-requires-5
-count-at-requires-5 c κs = search needs
-
-count-at-requires-6 : tie.Need-count-at-requires-6
-count-at-requires-6 c κs = search needs
-
-count-at-requires-7 : tie.Need-count-at-requires-7
-count-at-requires-7 c κs = search needs
-
-count-at-requires-8 : tie.Need-count-at-requires-8
-count-at-requires-8 c κs = search needs
-
-count-at-requires-9 : tie.Need-count-at-requires-9
-count-at-requires-9 c κs = search needs
-
-count-at-requires-10 : tie.Need-count-at-requires-10
-count-at-requires-10 c κs = search needs
-
-count-at-requires-11 : tie.Need-count-at-requires-11
-count-at-requires-11 c κs = search needs
-
-count-at-requires-12 : tie.Need-count-at-requires-12
-count-at-requires-12 c κs = search needs
-
 returns : tie.Need-returns
 unfolding tabulate
 returns c =
@@ -68,16 +32,16 @@ pub read-row-spec : {M : Type 1} → statement M
 read-row-spec =
     tie.close
     (tie.spec
-    count-at-requires
-    count-at-requires-2
-    count-at-requires-3
-    count-at-requires-4
-    count-at-requires-5
-    count-at-requires-6
-    count-at-requires-7
-    count-at-requires-8
-    count-at-requires-9
-    count-at-requires-10
-    count-at-requires-11
-    count-at-requires-12
+    (λ c κs. search needs)
+    (λ c κs. search needs)
+    (λ c κs. search needs)
+    (λ c κs. search needs)
+    (λ c κs. search needs)
+    (λ c κs. search needs)
+    (λ c κs. search needs)
+    (λ c κs. search needs)
+    (λ c κs. search needs)
+    (λ c κs. search needs)
+    (λ c κs. search needs)
+    (λ c κs. search needs)
     returns)

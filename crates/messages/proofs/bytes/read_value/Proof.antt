@@ -25,27 +25,6 @@ abbrev μ-loop : tie.MeasureT-loop
 loop-holds : tie.Need-loop-holds Inv-loop μ-loop
 loop-holds c = (search needs, (refl, words-zeros 8 ∙ sym (pasted-none 0 _ _)))
 
-mul-read-number : tie.Need-mul-read-number Inv-loop μ-loop
-mul-read-number c = search needs
-
-add-read-number : tie.Need-add-read-number Inv-loop μ-loop
-add-read-number c = search needs
-
-read-number-requires : tie.Need-read-number-requires Inv-loop μ-loop
-read-number-requires c κs = search needs
-
-mul-value : tie.Need-mul-value Inv-loop μ-loop
-mul-value c = search needs
-
-array-write-value : tie.Need-array-write-value Inv-loop μ-loop
-array-write-value c = search needs
-
-add-i : tie.Need-add-i Inv-loop μ-loop
-add-i c = search needs
-
-loop-less : tie.Need-loop-less Inv-loop μ-loop
-loop-less c = search needs
-
 loop-again : tie.Need-loop-again Inv-loop μ-loop
 loop-again c =
     let a = (c .before .before .before .before .args) in
@@ -73,12 +52,12 @@ read-value-spec =
     Inv-loop
     μ-loop
     loop-holds
-    mul-read-number
-    add-read-number
-    read-number-requires
-    mul-value
-    array-write-value
-    add-i
-    loop-less
+    (λ c. search needs)
+    (λ c. search needs)
+    (λ c κs. search needs)
+    (λ c. search needs)
+    (λ c. search needs)
+    (λ c. search needs)
+    (λ c. search needs)
     loop-again
     returns)

@@ -34,20 +34,8 @@ mul-write-row-2 c = record { fits = omega (arith, row-within (c .before .before 
 add-write-row : tie.Need-add-write-row Inv-loop μ-loop
 add-write-row c = record { fits = omega (arith, row-within (c .before .before .before .before .args .n) (c .before .before .loop .j) (omega arith)) }
 
-mul-write-row-3 : tie.Need-mul-write-row-3 Inv-loop μ-loop
-mul-write-row-3 c = search needs
-
-array-copy-out-write-row : tie.Need-array-copy-out-write-row Inv-loop μ-loop
-array-copy-out-write-row c = search needs
-
 write-row-requires : tie.Need-write-row-requires Inv-loop μ-loop
 write-row-requires c κs = (search needs, omega (arith, row-within (c .before .before .before .before .before .args .n) (c .before .before .before .loop .j) (omega arith)))
-
-add-j : tie.Need-add-j Inv-loop μ-loop
-add-j c = search needs
-
-loop-less : tie.Need-loop-less Inv-loop μ-loop
-loop-less c = search needs
 
 loop-again : tie.Need-loop-again Inv-loop μ-loop
 loop-again c =
@@ -61,9 +49,6 @@ loop-again c =
             ∙ row-written (a .t4) (a .n) (l .j) (a .at) (words (a .t .now)) (omega arith) (omega arith),
       ),
     )
-
-same-length : tie.Need-same-length Inv-loop μ-loop
-same-length c = search needs
 
 returns : tie.Need-returns Inv-loop μ-loop
 returns c =
@@ -82,11 +67,11 @@ write-matrix-spec =
     mul-write-row
     mul-write-row-2
     add-write-row
-    mul-write-row-3
-    array-copy-out-write-row
+    (λ c. search needs)
+    (λ c. search needs)
     write-row-requires
-    add-j
-    loop-less
+    (λ c. search needs)
+    (λ c. search needs)
     loop-again
-    same-length
+    (λ c. search needs)
     returns)

@@ -8,41 +8,14 @@ use Rattle.messages.proofs.Laws.{stored}
 use Rattle.messages.proofs.bytes.write_number.Statement.{statement}
 use Rattle.messages.proofs.bytes.write_number.Tie as tie
 
-cast-t : tie.Need-cast-t
-cast-t c = search needs
-
-slice-write-t : tie.Need-slice-write-t
-slice-write-t c = search needs
-
-cast-t-2 : tie.Need-cast-t-2
-cast-t-2 c = search needs
-
-add-t : tie.Need-add-t
-add-t c = search needs
-
 slice-write-t-2 : tie.Need-slice-write-t-2
 slice-write-t-2 c = simp length-set (omega arith)
-
-cast-t-3 : tie.Need-cast-t-3
-cast-t-3 c = search needs
-
-add-t-2 : tie.Need-add-t-2
-add-t-2 c = search needs
 
 slice-write-t-3 : tie.Need-slice-write-t-3
 slice-write-t-3 c = simp length-set (omega arith)
 
-cast-t-4 : tie.Need-cast-t-4
-cast-t-4 c = search needs
-
-add-t-3 : tie.Need-add-t-3
-add-t-3 c = search needs
-
 slice-write-t-4 : tie.Need-slice-write-t-4
 slice-write-t-4 c = simp length-set (omega arith)
-
-same-length : tie.Need-same-length
-same-length c = search needs
 
 returns : tie.Need-returns
 unfolding numberBytes
@@ -52,16 +25,16 @@ pub write-number-spec : {M : Type 1} → statement M
 write-number-spec =
     tie.close
     (tie.spec
-    cast-t
-    slice-write-t
-    cast-t-2
-    add-t
+    (λ c. search needs)
+    (λ c. search needs)
+    (λ c. search needs)
+    (λ c. search needs)
     slice-write-t-2
-    cast-t-3
-    add-t-2
+    (λ c. search needs)
+    (λ c. search needs)
     slice-write-t-3
-    cast-t-4
-    add-t-3
+    (λ c. search needs)
+    (λ c. search needs)
     slice-write-t-4
-    same-length
+    (λ c. search needs)
     returns)

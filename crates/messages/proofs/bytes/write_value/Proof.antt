@@ -21,27 +21,6 @@ abbrev μ-loop : tie.MeasureT-loop
 loop-holds : tie.Need-loop-holds Inv-loop μ-loop
 loop-holds c = (search needs, (refl, sym (pasted-none _ _ _)))
 
-mul-write-number : tie.Need-mul-write-number Inv-loop μ-loop
-mul-write-number c = search needs
-
-add-write-number : tie.Need-add-write-number Inv-loop μ-loop
-add-write-number c = search needs
-
-mul-write-number-2 : tie.Need-mul-write-number-2 Inv-loop μ-loop
-mul-write-number-2 c = search needs
-
-array-read-write-number : tie.Need-array-read-write-number Inv-loop μ-loop
-array-read-write-number c = search needs
-
-write-number-requires : tie.Need-write-number-requires Inv-loop μ-loop
-write-number-requires c κs = search needs
-
-add-i : tie.Need-add-i Inv-loop μ-loop
-add-i c = search needs
-
-loop-less : tie.Need-loop-less Inv-loop μ-loop
-loop-less c = search needs
-
 loop-again : tie.Need-loop-again Inv-loop μ-loop
 loop-again c =
     let a = (c .before .before .before .before .before .before .before .args) in
@@ -54,9 +33,6 @@ loop-again c =
             ∙ number-more (words (a .t3)) (a .at) (l .i) (words (a .t .now)),
       ),
     )
-
-same-length : tie.Need-same-length Inv-loop μ-loop
-same-length c = search needs
 
 returns : tie.Need-returns Inv-loop μ-loop
 returns c =
@@ -72,13 +48,13 @@ write-value-spec =
     Inv-loop
     μ-loop
     loop-holds
-    mul-write-number
-    add-write-number
-    mul-write-number-2
-    array-read-write-number
-    write-number-requires
-    add-i
-    loop-less
+    (λ c. search needs)
+    (λ c. search needs)
+    (λ c. search needs)
+    (λ c. search needs)
+    (λ c κs. search needs)
+    (λ c. search needs)
+    (λ c. search needs)
     loop-again
-    same-length
+    (λ c. search needs)
     returns)

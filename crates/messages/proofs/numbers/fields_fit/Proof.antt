@@ -16,9 +16,6 @@ use Rattle.messages.proofs.numbers.fields_fit.Tie as tie
 shared-slice-read-wide : tie.Need-shared-slice-read-wide
 shared-slice-read-wide c = omega (arith, lengthOf-least (words (c .before .before .args .s .now) 3) (c .before .before .args .n))
 
-wide-requires : tie.Need-wide-requires
-wide-requires c κs = search needs
-
 fields-at-requires : tie.Need-fields-at-requires
 unfolding lengthOf
 fields-at-requires c κs =
@@ -34,12 +31,6 @@ returns c =
 
 shared-slice-read-wide-2 : tie.Need-shared-slice-read-wide-2
 shared-slice-read-wide-2 c = omega (arith, lengthOf-least (words (c .before .before .before .before .before .args .s .now) 3) (c .before .before .before .before .before .args .n))
-
-wide-requires-2 : tie.Need-wide-requires-2
-wide-requires-2 c κs = search needs
-
-is-numbered-requires : tie.Need-is-numbered-requires
-is-numbered-requires c κs = search needs
 
 returns-2 : tie.Need-returns-2
 returns-2 c =
@@ -115,12 +106,12 @@ fields-fit-spec =
     tie.close
     (tie.spec
     shared-slice-read-wide
-    wide-requires
+    (λ c κs. search needs)
     fields-at-requires
     returns
     shared-slice-read-wide-2
-    wide-requires-2
-    is-numbered-requires
+    (λ c κs. search needs)
+    (λ c κs. search needs)
     returns-2
     returns-3
     fields-at-requires-2

@@ -9,30 +9,6 @@ use Rattle.model.specs.Messages.{lengthOf}
 use Rattle.messages.proofs.numbers.length_of.Statement.{statement}
 use Rattle.messages.proofs.numbers.length_of.Tie as tie
 
-sub-at : tie.Need-sub-at
-sub-at c = search needs
-
-mul-at : tie.Need-mul-at
-mul-at c = search needs
-
-sub-at-2 : tie.Need-sub-at-2
-sub-at-2 c = search needs
-
-add-at : tie.Need-add-at
-add-at c = search needs
-
-cast-wide-length : tie.Need-cast-wide-length
-cast-wide-length c = search needs
-
-mul-wide-length : tie.Need-mul-wide-length
-mul-wide-length c = search needs
-
-array-read-wide-length : tie.Need-array-read-wide-length
-array-read-wide-length c = search needs
-
-wide-length-requires : tie.Need-wide-length-requires
-wide-length-requires c κs = search needs
-
 returns : tie.Need-returns
 unfolding tabulate lengthOf
 returns c =
@@ -45,4 +21,4 @@ returns c =
 pub length-of-spec : {M : Type 1} → statement M
 length-of-spec =
     tie.close
-    (tie.spec sub-at mul-at sub-at-2 add-at cast-wide-length mul-wide-length array-read-wide-length wide-length-requires returns)
+    (tie.spec (λ c. search needs) (λ c. search needs) (λ c. search needs) (λ c. search needs) (λ c. search needs) (λ c. search needs) (λ c. search needs) (λ c κs. search needs) returns)

@@ -10,22 +10,13 @@ use Rattle.messages.proofs.Laws.{given-submit, given-reply, given-commi
 use Rattle.messages.proofs.numbers.message_fits.Statement.{statement}
 use Rattle.messages.proofs.numbers.message_fits.Tie as tie
 
-is-fit-requires : tie.Need-is-fit-requires
-is-fit-requires c κs = search needs
-
 returns : tie.Need-returns
 unfolding fitGiven fitMessage fitRecord fieldsIn recordIn
 returns c = c .is-fit .ensures ∙ sym (ap (fitGiven (c .before .before .args .n)) (given-submit (fieldsIn (c .before .before .args .message)) (c .before .if1 .taken)))
 
-is-numbered-requires : tie.Need-is-numbered-requires
-is-numbered-requires c κs = search needs
-
 returns-2 : tie.Need-returns-2
 unfolding fitGiven fitMessage fitRecord fieldsIn recordIn
 returns-2 c = c .is-numbered .ensures ∙ sym (ap (fitGiven (c .before .before .before .args .n)) (given-outcome (fieldsIn (c .before .before .before .args .message)) (c .before .if2 .taken)))
-
-is-fit-requires-2 : tie.Need-is-fit-requires-2
-is-fit-requires-2 c κs = search needs
 
 returns-3 : tie.Need-returns-3
 unfolding fitGiven fitMessage fitRecord fieldsIn recordIn
@@ -35,15 +26,9 @@ returns-4 : tie.Need-returns-4
 unfolding fitGiven fieldsIn
 returns-4 c = sym (ap (fitGiven (c .before .before .before .before .before .args .n)) (given-none (fieldsIn (c .before .before .before .before .before .args .message)) (c .before .before .before .before .if1 .left) (c .if4 .taken) (c .before .if3 .left) (c .before .before .before .if2 .left)))
 
-is-fit-requires-3 : tie.Need-is-fit-requires-3
-is-fit-requires-3 c κs = search needs
-
 returns-5 : tie.Need-returns-5
 unfolding fitGiven fitMessage fitRecord fieldsIn recordIn
 returns-5 c = sym (ap (fitGiven (c .before .before .before .before .before .before .before .args .n)) (given-reply (fieldsIn (c .before .before .before .before .before .before .before .args .message)) (c .before .before .if4 .left)) ∙ rw (sym (c .before .is-fit3 .ensures) ∙ not-true _ (c .if5 .taken)))
-
-is-fit-requires-4 : tie.Need-is-fit-requires-4
-is-fit-requires-4 c κs = search needs
 
 returns-6 : tie.Need-returns-6
 unfolding fitGiven fitMessage fitRecord fieldsIn recordIn
@@ -55,14 +40,14 @@ pub message-fits-spec : {M : Type 1} → statement M
 message-fits-spec =
     tie.close
     (tie.spec
-    is-fit-requires
+    (λ c κs. search needs)
     returns
-    is-numbered-requires
+    (λ c κs. search needs)
     returns-2
-    is-fit-requires-2
+    (λ c κs. search needs)
     returns-3
     returns-4
-    is-fit-requires-3
+    (λ c κs. search needs)
     returns-5
-    is-fit-requires-4
+    (λ c κs. search needs)
     returns-6)

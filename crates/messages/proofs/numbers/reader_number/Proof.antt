@@ -17,9 +17,6 @@ use Rattle.messages.proofs.numbers.reader_number.Tie as tie
 kind : {x y : ℕ} {t : Bool} → inside 4 x ≡ t → x ≡ y → inside 4 y ≡ t
 kind h e = rw (← e) h
 
-is-numbered-requires : tie.Need-is-numbered-requires
-is-numbered-requires c κs = search needs
-
 returns : tie.Need-returns
 unfolding readNumber
 returns c = rw (sym (c .before .is-numbered .ensures) ∙ not-true _ (c .if1 .taken))
@@ -33,18 +30,6 @@ returns-2 c =
       lt-ltb (length l) 4 (c .if2 .taken),
     )
 
-sub-rest : tie.Need-sub-rest
-sub-rest c = search needs
-
-shared-slice-read-length-field : tie.Need-shared-slice-read-length-field
-shared-slice-read-length-field c = search needs
-
-shared-slice-read-length-field-2 : tie.Need-shared-slice-read-length-field-2
-shared-slice-read-length-field-2 c = search needs
-
-length-field-requires : tie.Need-length-field-requires
-length-field-requires c κs = search needs
-
 returns-3 : tie.Need-returns-3
 unfolding readNumber
 returns-3 c =
@@ -54,12 +39,6 @@ returns-3 c =
       le-ltb (length l) 4 (c .before .before .before .before .if2 .left),
       ne-eqb (words l 0 * 256 + words l 1) (length l - 2) (λ e. c .if3 .taken (c .before .length-field .ensures ∙ e)),
     )
-
-shared-slice-read-wide : tie.Need-shared-slice-read-wide
-shared-slice-read-wide c = search needs
-
-wide-requires : tie.Need-wide-requires
-wide-requires c κs = search needs
 
 returns-4 : tie.Need-returns-4
 unfolding readNumber
@@ -71,15 +50,6 @@ returns-4 c =
       eq-eqb (words l 0 * 256 + words l 1) (length l - 2) (sym (c .before .before .before .before .length-field .ensures) ∙ c .before .before .before .if3 .left),
       ne-eqb (words l 2) 1 (λ e. c .if4 .taken (c .before .wide .ensures ∙ e)),
     )
-
-shared-slice-read-wide-2 : tie.Need-shared-slice-read-wide-2
-shared-slice-read-wide-2 c = search needs
-
-wide-requires-2 : tie.Need-wide-requires-2
-wide-requires-2 c κs = search needs
-
-is-numbered-requires-2 : tie.Need-is-numbered-requires-2
-is-numbered-requires-2 c κs = search needs
 
 returns-5 : tie.Need-returns-5
 unfolding readNumber
@@ -154,20 +124,20 @@ pub reader-number-spec : {M : Type 1} → statement M
 reader-number-spec =
     tie.close
     (tie.spec
-    is-numbered-requires
+    (λ c κs. search needs)
     returns
     returns-2
-    sub-rest
-    shared-slice-read-length-field
-    shared-slice-read-length-field-2
-    length-field-requires
+    (λ c. search needs)
+    (λ c. search needs)
+    (λ c. search needs)
+    (λ c κs. search needs)
     returns-3
-    shared-slice-read-wide
-    wide-requires
+    (λ c. search needs)
+    (λ c κs. search needs)
     returns-4
-    shared-slice-read-wide-2
-    wide-requires-2
-    is-numbered-requires-2
+    (λ c. search needs)
+    (λ c κs. search needs)
+    (λ c κs. search needs)
     returns-5
     length-of-requires
     returns-6

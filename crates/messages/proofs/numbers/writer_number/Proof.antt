@@ -12,15 +12,9 @@ use Rattle.messages.proofs.Laws.{given-kind, given-length}
 use Rattle.messages.proofs.numbers.writer_number.Statement.{statement}
 use Rattle.messages.proofs.numbers.writer_number.Tie as tie
 
-is-numbered-requires : tie.Need-is-numbered-requires
-is-numbered-requires c κs = search needs
-
 returns : tie.Need-returns
 unfolding writeNumber
 returns c = rw (sym (c .before .is-numbered .ensures) ∙ not-true _ (c .if1 .taken))
-
-message-fits-requires : tie.Need-message-fits-requires
-message-fits-requires c κs = search needs
 
 returns-2 : tie.Need-returns-2
 unfolding writeNumber
@@ -58,9 +52,9 @@ pub writer-number-spec : {M : Type 1} → statement M
 writer-number-spec =
     tie.close
     (tie.spec
-    is-numbered-requires
+    (λ c κs. search needs)
     returns
-    message-fits-requires
+    (λ c κs. search needs)
     returns-2
     length-of-requires
     add-size

@@ -9,9 +9,6 @@ use Rattle.messages.proofs.reader.read_commit.Tie as tie
 read-record-requires : tie.Need-read-record-requires
 read-record-requires c κs = (omega arith, omega arith)
 
-zero-requires : tie.Need-zero-requires
-zero-requires c κs = search needs
-
 returns : tie.Need-returns
 unfolding fieldsIn fieldsOf
 returns c = (
@@ -29,4 +26,4 @@ returns c = (
 )
 
 pub read-commit-spec : {M : Type 1} → statement M
-read-commit-spec = tie.close (tie.spec read-record-requires zero-requires returns)
+read-commit-spec = tie.close (tie.spec read-record-requires (λ c κs. search needs) returns)

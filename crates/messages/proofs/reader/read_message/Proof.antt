@@ -16,9 +16,6 @@ shared-slice-read-wide c =
     let h = readable (c .before .before .args .n) l (c .before .before .pre) in
     omega (arith, h .head)
 
-wide-requires : tie.Need-wide-requires
-wide-requires c κs = search needs
-
 read-submit-requires : tie.Need-read-submit-requires
 unfolding lengthOf
 read-submit-requires c κs =
@@ -67,17 +64,11 @@ returns-3 c =
     let k : words l 3 ≡ 3 = sym (c .before .before .before .before .wide .ensures) ∙ c .before .if3 .taken in
     (c .read-commit .ensures .0, c .read-commit .ensures .1 ∙ ap (λ m. fieldsOf (some m)) (sym (from-commit (c .before .before .before .before .before .before .before .args .n) (words l) k)))
 
-refused-requires : tie.Need-refused-requires
-refused-requires c κs = search needs
-
 shared-slice-read-wide-2 : tie.Need-shared-slice-read-wide-2
 shared-slice-read-wide-2 c =
     let l = c .before .before .before .before .before .before .before .before .args .s .now in
     let h = readable (c .before .before .before .before .before .before .before .before .args .n) l (c .before .before .before .before .before .before .before .before .pre) in
     omega (arith, h .whole, lengthOf-least (words l 3) (c .before .before .before .before .before .before .before .before .args .n))
-
-wide-requires-2 : tie.Need-wide-requires-2
-wide-requires-2 c κs = search needs
 
 returns-4 : tie.Need-returns-4
 unfolding fieldsIn fieldsOf
@@ -104,14 +95,14 @@ read-message-spec =
     tie.close
     (tie.spec
     shared-slice-read-wide
-    wide-requires
+    (λ c κs. search needs)
     read-submit-requires
     returns
     read-reply-requires
     returns-2
     read-commit-requires
     returns-3
-    refused-requires
+    (λ c κs. search needs)
     shared-slice-read-wide-2
-    wide-requires-2
+    (λ c κs. search needs)
     returns-4)

@@ -15,9 +15,6 @@ use Rattle.messages.proofs.writer.write_commit.Tie as tie
 length-of-requires : tie.Need-length-of-requires
 length-of-requires c κs = (omega arith, (omega arith, (omega arith, omega arith)))
 
-cast-write-heading : tie.Need-cast-write-heading
-cast-write-heading c = search needs
-
 write-heading-requires : tie.Need-write-heading-requires
 unfolding lengthOf recordLength
 write-heading-requires c κs = (omega arith, omega (arith, c .length-of .ensures, square-small (c .before .before .before .args .n) (omega arith)))
@@ -39,7 +36,7 @@ write-commit-spec =
     tie.close
     (tie.spec
     length-of-requires
-    cast-write-heading
+    (λ c. search needs)
     write-heading-requires
     write-record-requires
     same-length

@@ -7,15 +7,6 @@ use Rattle.messages.proofs.Laws.{stored}
 use Rattle.messages.proofs.writer.write_heading.Statement.{statement}
 use Rattle.messages.proofs.writer.write_heading.Tie as tie
 
-cast-t : tie.Need-cast-t
-cast-t c = search needs
-
-slice-write-t : tie.Need-slice-write-t
-slice-write-t c = search needs
-
-cast-t-2 : tie.Need-cast-t-2
-cast-t-2 c = search needs
-
 slice-write-t-2 : tie.Need-slice-write-t-2
 slice-write-t-2 c = simp length-set (omega arith)
 
@@ -28,9 +19,6 @@ slice-write-t-4 c = simp length-set (omega arith)
 slice-write-t-5 : tie.Need-slice-write-t-5
 slice-write-t-5 c = simp length-set (omega arith)
 
-same-length : tie.Need-same-length
-same-length c = search needs
-
 returns : tie.Need-returns
 returns c = stored (c .args .t .now) 0 _ (_ ∷ _ ∷ _ ∷ _ ∷ []) (omega arith)
 
@@ -38,12 +26,12 @@ pub write-heading-spec : {M : Type 1} → statement M
 write-heading-spec =
     tie.close
     (tie.spec
-    cast-t
-    slice-write-t
-    cast-t-2
+    (λ c. search needs)
+    (λ c. search needs)
+    (λ c. search needs)
     slice-write-t-2
     slice-write-t-3
     slice-write-t-4
     slice-write-t-5
-    same-length
+    (λ c. search needs)
     returns)

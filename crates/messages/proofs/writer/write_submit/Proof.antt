@@ -7,20 +7,11 @@ use Rattle.messages.proofs.Laws.{submit-written}
 use Rattle.messages.proofs.writer.write_submit.Statement.{statement}
 use Rattle.messages.proofs.writer.write_submit.Tie as tie
 
-cast-write-heading : tie.Need-cast-write-heading
-cast-write-heading c = search needs
-
 write-heading-requires : tie.Need-write-heading-requires
 write-heading-requires c κs = (omega arith, omega arith)
 
-cast-t : tie.Need-cast-t
-cast-t c = search needs
-
 slice-write-t : tie.Need-slice-write-t
 slice-write-t c = omega (arith, c .before .before .write-heading .kept .0)
-
-cast-t-2 : tie.Need-cast-t-2
-cast-t-2 c = search needs
 
 slice-write-t-2 : tie.Need-slice-write-t-2
 slice-write-t-2 c = simp length-set (omega (arith, c .before .before .write-heading .kept .0))
@@ -41,11 +32,11 @@ pub write-submit-spec : {M : Type 1} → statement M
 write-submit-spec =
     tie.close
     (tie.spec
-    cast-write-heading
+    (λ c. search needs)
     write-heading-requires
-    cast-t
+    (λ c. search needs)
     slice-write-t
-    cast-t-2
+    (λ c. search needs)
     slice-write-t-2
     write-number-requires
     same-length

@@ -5,12 +5,9 @@ use Rattle.records.specs.Meaning.{recordIn}
 use Rattle.records.proofs.Record.fits.Statement.{statement}
 use Rattle.records.proofs.Record.fits.Tie as tie
 
-is-fit-requires : tie.Need-is-fit-requires
-is-fit-requires c κs = search needs
-
 returns : tie.Need-returns
 unfolding fitRecord recordIn
 returns c = c .is-fit .ensures
 
 pub fits-spec : {M : Type 1} → statement M
-fits-spec = tie.close (tie.spec is-fit-requires returns)
+fits-spec = tie.close (tie.spec (λ c κs. search needs) returns)

@@ -41,18 +41,6 @@ load-row-requires c κs =
     let a = c .before .before .before .args in
     (search needs, omega (arith, row-within (a .n) (c .before .loop .j) (omega arith)))
 
-mul-matrix : tie.Need-mul-matrix Inv-loop μ-loop
-mul-matrix c = search needs
-
-array-set-from-matrix : tie.Need-array-set-from-matrix Inv-loop μ-loop
-array-set-from-matrix c = search needs
-
-add-j : tie.Need-add-j Inv-loop μ-loop
-add-j c = search needs
-
-loop-less : tie.Need-loop-less Inv-loop μ-loop
-loop-less c = search needs
-
 loop-again : tie.Need-loop-again Inv-loop μ-loop
 loop-again c =
     let a = c .before .before .before .before .args in
@@ -85,9 +73,9 @@ load-matrix-spec =
     mul-load-row
     add-load-row
     load-row-requires
-    mul-matrix
-    array-set-from-matrix
-    add-j
-    loop-less
+    (λ c. search needs)
+    (λ c. search needs)
+    (λ c. search needs)
+    (λ c. search needs)
     loop-again
     returns)

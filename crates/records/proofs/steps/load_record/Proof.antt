@@ -25,9 +25,6 @@ load-matrix-requires : tie.Need-load-matrix-requires
 unfolding recordSize
 load-matrix-requires c κs = (omega arith, omega arith)
 
-mul-t6 : tie.Need-mul-t6
-mul-t6 c = search needs
-
 shared-slice-read-t8 : tie.Need-shared-slice-read-t8
 unfolding recordSize
 shared-slice-read-t8 c = omega arith
@@ -35,9 +32,6 @@ shared-slice-read-t8 c = omega arith
 add-t9 : tie.Need-add-t9
 unfolding recordSize
 add-t9 c = record { fits = omega arith }
-
-mul-t10 : tie.Need-mul-t10
-mul-t10 c = search needs
 
 shared-slice-read-t12 : tie.Need-shared-slice-read-t12
 unfolding recordSize
@@ -47,9 +41,6 @@ add-t13 : tie.Need-add-t13
 unfolding recordSize
 add-t13 c = record { fits = omega arith }
 
-mul-t14 : tie.Need-mul-t14
-mul-t14 c = search needs
-
 shared-slice-read-t16 : tie.Need-shared-slice-read-t16
 unfolding recordSize
 shared-slice-read-t16 c = omega arith
@@ -57,9 +48,6 @@ shared-slice-read-t16 c = omega arith
 add-t17 : tie.Need-add-t17
 unfolding recordSize
 add-t17 c = record { fits = omega arith }
-
-mul-t18 : tie.Need-mul-t18
-mul-t18 c = search needs
 
 shared-slice-read-t20 : tie.Need-shared-slice-read-t20
 unfolding recordSize
@@ -80,15 +68,15 @@ load-record-spec =
     load-value-requires
     add-load-matrix
     load-matrix-requires
-    mul-t6
+    (λ c. search needs)
     shared-slice-read-t8
     add-t9
-    mul-t10
+    (λ c. search needs)
     shared-slice-read-t12
     add-t13
-    mul-t14
+    (λ c. search needs)
     shared-slice-read-t16
     add-t17
-    mul-t18
+    (λ c. search needs)
     shared-slice-read-t20
     returns)

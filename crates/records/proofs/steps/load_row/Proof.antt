@@ -24,21 +24,6 @@ loop-holds c =
     let g = from (words (a .t .now)) (a .at) in
     (search needs, (refl, words-zeros 12 ∙ sym (pasted-none 0 g (λ k. 0)) ∙ ap (λ k. pasted 0 k g (λ k. 0)) (none-yet (a .n))))
 
-count-at-requires : tie.Need-count-at-requires Inv-loop μ-loop
-count-at-requires c κs = search needs
-
-mul-row : tie.Need-mul-row Inv-loop μ-loop
-mul-row c = search needs
-
-element-write-row : tie.Need-element-write-row Inv-loop μ-loop
-element-write-row c = search needs
-
-add-i : tie.Need-add-i Inv-loop μ-loop
-add-i c = search needs
-
-loop-less : tie.Need-loop-less Inv-loop μ-loop
-loop-less c = search needs
-
 loop-again : tie.Need-loop-again Inv-loop μ-loop
 unfolding from
 loop-again c =
@@ -66,10 +51,10 @@ load-row-spec =
     Inv-loop
     μ-loop
     loop-holds
-    count-at-requires
-    mul-row
-    element-write-row
-    add-i
-    loop-less
+    (λ c κs. search needs)
+    (λ c. search needs)
+    (λ c. search needs)
+    (λ c. search needs)
+    (λ c. search needs)
     loop-again
     returns)

@@ -22,27 +22,6 @@ abbrev μ-loop : tie.MeasureT-loop
 loop-holds : tie.Need-loop-holds Inv-loop μ-loop
 loop-holds c = (search needs, (refl, words-zeros 8 ∙ sym (pasted-none 0 _ _)))
 
-add-value : tie.Need-add-value Inv-loop μ-loop
-add-value c = search needs
-
-mul-value : tie.Need-mul-value Inv-loop μ-loop
-mul-value c = search needs
-
-shared-slice-read-value : tie.Need-shared-slice-read-value Inv-loop μ-loop
-shared-slice-read-value c = search needs
-
-mul-value-2 : tie.Need-mul-value-2 Inv-loop μ-loop
-mul-value-2 c = search needs
-
-array-write-value : tie.Need-array-write-value Inv-loop μ-loop
-array-write-value c = search needs
-
-add-i : tie.Need-add-i Inv-loop μ-loop
-add-i c = search needs
-
-loop-less : tie.Need-loop-less Inv-loop μ-loop
-loop-less c = search needs
-
 loop-again : tie.Need-loop-again Inv-loop μ-loop
 unfolding from
 loop-again c =
@@ -70,12 +49,12 @@ load-value-spec =
     Inv-loop
     μ-loop
     loop-holds
-    add-value
-    mul-value
-    shared-slice-read-value
-    mul-value-2
-    array-write-value
-    add-i
-    loop-less
+    (λ c. search needs)
+    (λ c. search needs)
+    (λ c. search needs)
+    (λ c. search needs)
+    (λ c. search needs)
+    (λ c. search needs)
+    (λ c. search needs)
     loop-again
     returns)

@@ -8,27 +8,12 @@ use borrow.Author.Needs.{needs}
 use Rattle.records.proofs.steps.sound_record.Statement.{statement}
 use Rattle.records.proofs.steps.sound_record.Tie as tie
 
-mul-if1 : tie.Need-mul-if1
-mul-if1 c = search needs
-
-shared-slice-read-if1 : tie.Need-shared-slice-read-if1
-shared-slice-read-if1 c = search needs
-
 returns : tie.Need-returns
 unfolding soundRecord
 returns c =
     let a = c .before .before .args in
     let w = words (a .t .now) in
     rw (recordOf-parts (a .n) w (a .at), lt-leb (w (a .at)) (a .n) (c .if1 .taken))
-
-add-if2 : tie.Need-add-if2
-add-if2 c = search needs
-
-mul-if2 : tie.Need-mul-if2
-mul-if2 c = search needs
-
-shared-slice-read-if2 : tie.Need-shared-slice-read-if2
-shared-slice-read-if2 c = search needs
 
 returns-2 : tie.Need-returns-2
 unfolding soundRecord
@@ -40,15 +25,6 @@ returns-2 c =
       le-leb (w (a .at)) (a .n) (c .before .before .if1 .left),
       lt-leb (w (a .at + 1)) (a .n) (c .if2 .taken),
     )
-
-add-result : tie.Need-add-result
-add-result c = search needs
-
-mul-result : tie.Need-mul-result
-mul-result c = search needs
-
-shared-slice-read-result : tie.Need-shared-slice-read-result
-shared-slice-read-result c = search needs
 
 returns-3 : tie.Need-returns-3
 unfolding soundRecord
@@ -65,14 +41,14 @@ pub sound-record-spec : {M : Type 1} → statement M
 sound-record-spec =
     tie.close
     (tie.spec
-    mul-if1
-    shared-slice-read-if1
+    (λ c. search needs)
+    (λ c. search needs)
     returns
-    add-if2
-    mul-if2
-    shared-slice-read-if2
+    (λ c. search needs)
+    (λ c. search needs)
+    (λ c. search needs)
     returns-2
-    add-result
-    mul-result
-    shared-slice-read-result
+    (λ c. search needs)
+    (λ c. search needs)
+    (λ c. search needs)
     returns-3)

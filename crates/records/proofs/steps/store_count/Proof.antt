@@ -9,20 +9,8 @@ use Rattle.records.proofs.steps.store_count.Tie as tie
 returns : tie.Need-returns
 returns c = rw (le-ltb _ _ (c .if1 .taken))
 
-add-t : tie.Need-add-t
-add-t c = search needs
-
-mul-t : tie.Need-mul-t
-mul-t c = search needs
-
-slice-write-t : tie.Need-slice-write-t
-slice-write-t c = search needs
-
-same-length : tie.Need-same-length
-same-length c = search needs
-
 returns-2 : tie.Need-returns-2
 returns-2 c = let a = (c .before .args) in rw (lt-ltb _ _ (c .if1 .left)) (words-set (a .t .now) (a .at + a .i) (a .count) (omega arith))
 
 pub store-count-spec : {M : Type 1} → statement M
-store-count-spec = tie.close (tie.spec returns add-t mul-t slice-write-t same-length returns-2)
+store-count-spec = tie.close (tie.spec returns (λ c. search needs) (λ c. search needs) (λ c. search needs) (λ c. search needs) returns-2)

@@ -35,22 +35,10 @@ add-store-row c =
     let a = c .before .before .before .before .args in
     record { fits = omega (arith, row-within (a .n) (c .before .before .loop .j) (omega arith)) }
 
-mul-store-row-2 : tie.Need-mul-store-row-2 Inv-loop μ-loop
-mul-store-row-2 c = search needs
-
-array-copy-out-store-row : tie.Need-array-copy-out-store-row Inv-loop μ-loop
-array-copy-out-store-row c = search needs
-
 store-row-requires : tie.Need-store-row-requires Inv-loop μ-loop
 store-row-requires c κs =
     let a = c .before .before .before .before .before .args in
     (search needs, omega (arith, row-within (a .n) (c .before .before .before .loop .j) (omega arith)))
-
-add-j : tie.Need-add-j Inv-loop μ-loop
-add-j c = search needs
-
-loop-less : tie.Need-loop-less Inv-loop μ-loop
-loop-less c = search needs
 
 loop-again : tie.Need-loop-again Inv-loop μ-loop
 loop-again c =
@@ -64,9 +52,6 @@ loop-again c =
             ∙ row-stored (a .t4) (a .n) (l .j) (a .at) (words (a .t .now)) (omega arith) (omega arith),
       ),
     )
-
-same-length : tie.Need-same-length Inv-loop μ-loop
-same-length c = search needs
 
 returns : tie.Need-returns Inv-loop μ-loop
 returns c =
@@ -84,11 +69,11 @@ store-matrix-spec =
     loop-holds
     mul-store-row
     add-store-row
-    mul-store-row-2
-    array-copy-out-store-row
+    (λ c. search needs)
+    (λ c. search needs)
     store-row-requires
-    add-j
-    loop-less
+    (λ c. search needs)
+    (λ c. search needs)
     loop-again
-    same-length
+    (λ c. search needs)
     returns)

@@ -8,9 +8,6 @@ use Rattle.records.proofs.Laws.{record-stored}
 use Rattle.records.proofs.steps.store_record.Statement.{statement}
 use Rattle.records.proofs.steps.store_record.Tie as tie
 
-mul-t : tie.Need-mul-t
-mul-t c = search needs
-
 slice-write-t : tie.Need-slice-write-t
 unfolding recordSize
 slice-write-t c = omega arith
@@ -18,9 +15,6 @@ slice-write-t c = omega arith
 add-t : tie.Need-add-t
 unfolding recordSize
 add-t c = record { fits = omega arith }
-
-mul-t-2 : tie.Need-mul-t-2
-mul-t-2 c = search needs
 
 slice-write-t-2 : tie.Need-slice-write-t-2
 unfolding recordSize
@@ -30,9 +24,6 @@ add-t-2 : tie.Need-add-t-2
 unfolding recordSize
 add-t-2 c = record { fits = omega arith }
 
-mul-t-3 : tie.Need-mul-t-3
-mul-t-3 c = search needs
-
 slice-write-t-3 : tie.Need-slice-write-t-3
 unfolding recordSize
 slice-write-t-3 c = simp length-set (omega arith)
@@ -40,9 +31,6 @@ slice-write-t-3 c = simp length-set (omega arith)
 add-t-3 : tie.Need-add-t-3
 unfolding recordSize
 add-t-3 c = record { fits = omega arith }
-
-mul-t-4 : tie.Need-mul-t-4
-mul-t-4 c = search needs
 
 slice-write-t-4 : tie.Need-slice-write-t-4
 unfolding recordSize
@@ -83,16 +71,16 @@ pub store-record-spec : {M : Type 1} → statement M
 store-record-spec =
     tie.close
     (tie.spec
-    mul-t
+    (λ c. search needs)
     slice-write-t
     add-t
-    mul-t-2
+    (λ c. search needs)
     slice-write-t-2
     add-t-2
-    mul-t-3
+    (λ c. search needs)
     slice-write-t-3
     add-t-3
-    mul-t-4
+    (λ c. search needs)
     slice-write-t-4
     add-store-value
     store-value-requires

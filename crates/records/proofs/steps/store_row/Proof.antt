@@ -23,20 +23,8 @@ loop-holds c =
     let w = words (a .t .now) in
     (search needs, (refl, sym (pasted-none (a .at) g w) ∙ ap (λ k. pasted (a .at) k g w) (none-yet (a .n))))
 
-mul-store-count : tie.Need-mul-store-count Inv-loop μ-loop
-mul-store-count c = search needs
-
-element-copy-out-store-count : tie.Need-element-copy-out-store-count Inv-loop μ-loop
-element-copy-out-store-count c = search needs
-
 store-count-requires : tie.Need-store-count-requires Inv-loop μ-loop
 store-count-requires c κs = omega (arith, c .before .before .before .loop .inv .1 .0)
-
-add-i : tie.Need-add-i Inv-loop μ-loop
-add-i c = search needs
-
-loop-less : tie.Need-loop-less Inv-loop μ-loop
-loop-less c = search needs
 
 loop-again : tie.Need-loop-again Inv-loop μ-loop
 loop-again c =
@@ -45,9 +33,6 @@ loop-again c =
       search needs,
       (c .before .before .store-count .kept .0 ∙ l .inv .1 .0, count-stored (l .i) (a .n) (a .at) (words (a .t4 .counts)) (words (a .t .now)) (words (l .t)) _ (l .inv .1 .1) (c .before .before .store-count .ensures)),
     )
-
-same-length : tie.Need-same-length Inv-loop μ-loop
-same-length c = search needs
 
 returns : tie.Need-returns Inv-loop μ-loop
 returns c =
@@ -63,11 +48,11 @@ store-row-spec =
     Inv-loop
     μ-loop
     loop-holds
-    mul-store-count
-    element-copy-out-store-count
+    (λ c. search needs)
+    (λ c. search needs)
     store-count-requires
-    add-i
-    loop-less
+    (λ c. search needs)
+    (λ c. search needs)
     loop-again
-    same-length
+    (λ c. search needs)
     returns)

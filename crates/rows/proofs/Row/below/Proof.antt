@@ -20,24 +20,9 @@ Inv-loop n self other last i₀ i = (i ≤ last) × ((last ≤ 12) × (below i (
 abbrev μ-loop : tie.MeasureT-loop
 μ-loop n self other last i₀ i = last - i
 
-entries-requires : tie.Need-entries-requires Inv-loop μ-loop
-entries-requires c κs = search needs
-
 loop-holds : tie.Need-loop-holds Inv-loop μ-loop
 unfolding below
 loop-holds c = (search needs, (omega arith, each-none _))
-
-mul-if1 : tie.Need-mul-if1 Inv-loop μ-loop
-mul-if1 c = search needs
-
-element-copy-out-if1 : tie.Need-element-copy-out-if1 Inv-loop μ-loop
-element-copy-out-if1 c = search needs
-
-mul-if1-2 : tie.Need-mul-if1-2 Inv-loop μ-loop
-mul-if1-2 c = search needs
-
-element-copy-out-if1-2 : tie.Need-element-copy-out-if1-2 Inv-loop μ-loop
-element-copy-out-if1-2 c = search needs
 
 returns : tie.Need-returns Inv-loop μ-loop
 returns c =
@@ -45,12 +30,6 @@ returns c =
     let e = c .before .before .before .before .before .entries .ensures in
     let l = c .before .before .before .before .loop in
     sym (below-fails (a .t1) (a .t2) (min (a .n) 12) (l .i) (omega arith) (omega arith) (c .if1 .taken))
-
-add-i : tie.Need-add-i Inv-loop μ-loop
-add-i c = search needs
-
-loop-less : tie.Need-loop-less Inv-loop μ-loop
-loop-less c = search needs
 
 loop-again : tie.Need-loop-again Inv-loop μ-loop
 loop-again c =
@@ -70,14 +49,14 @@ below-spec =
     (tie.spec
     Inv-loop
     μ-loop
-    entries-requires
+    (λ c κs. search needs)
     loop-holds
-    mul-if1
-    element-copy-out-if1
-    mul-if1-2
-    element-copy-out-if1-2
+    (λ c. search needs)
+    (λ c. search needs)
+    (λ c. search needs)
+    (λ c. search needs)
     returns
-    add-i
-    loop-less
+    (λ c. search needs)
+    (λ c. search needs)
     loop-again
     returns-2)

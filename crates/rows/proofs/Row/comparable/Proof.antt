@@ -5,12 +5,6 @@ use Rattle.model.specs.Rows.{comparable}
 use Rattle.rows.proofs.Row.comparable.Statement.{statement}
 use Rattle.rows.proofs.Row.comparable.Tie as tie
 
-below-requires : tie.Need-below-requires
-below-requires c κs = search needs
-
-below-requires-2 : tie.Need-below-requires-2
-below-requires-2 c κs = search needs
-
 returns : tie.Need-returns
 unfolding comparable
 returns c = rw (sym (c .before .below .ensures) ∙ c .if1 .taken) (c .if1 .taken)
@@ -20,4 +14,4 @@ unfolding comparable
 returns-2 c = rw (sym (c .before .before .below .ensures) ∙ c .before .if1 .left) (c .below2 .ensures)
 
 pub comparable-spec : {M : Type 1} → statement M
-comparable-spec = tie.close (tie.spec below-requires below-requires-2 returns returns-2)
+comparable-spec = tie.close (tie.spec (λ c κs. search needs) (λ c κs. search needs) returns returns-2)

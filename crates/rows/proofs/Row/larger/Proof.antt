@@ -5,9 +5,6 @@ use Rattle.model.specs.Rows.{larger}
 use Rattle.rows.proofs.Row.larger.Statement.{statement}
 use Rattle.rows.proofs.Row.larger.Tie as tie
 
-below-requires : tie.Need-below-requires
-below-requires c κs = search needs
-
 returns : tie.Need-returns
 unfolding larger
 returns c = rw (sym (c .before .below .ensures) ∙ c .if1 .taken)
@@ -17,4 +14,4 @@ unfolding larger
 returns-2 c = rw (sym (c .before .below .ensures) ∙ c .if1 .left)
 
 pub larger-spec : {M : Type 1} → statement M
-larger-spec = tie.close (tie.spec below-requires returns returns-2)
+larger-spec = tie.close (tie.spec (λ c κs. search needs) returns returns-2)

@@ -23,12 +23,6 @@ returns-2 c =
     let a = c .before .before .args in
     sym (withCount-out 12 (rowIn (a .t1)) (a .member) (a .count) (inside-above 12 (a .member) (c .if2 .taken)))
 
-mul-self : tie.Need-mul-self
-mul-self c = search needs
-
-element-write-self : tie.Need-element-write-self
-element-write-self c = search needs
-
 returns-3 : tie.Need-returns-3
 returns-3 c =
     let a = c .before .before .args in
@@ -39,4 +33,4 @@ returns-3 c =
     ∙ sym (withCount-in 12 (rowIn (a .t1)) (a .member) (a .count) (omega arith) (omega arith))
 
 pub with-spec : {M : Type 1} → statement M
-with-spec = tie.close (tie.spec returns returns-2 mul-self element-write-self returns-3)
+with-spec = tie.close (tie.spec returns returns-2 (λ c. search needs) (λ c. search needs) returns-3)

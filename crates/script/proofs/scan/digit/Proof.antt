@@ -15,12 +15,9 @@ returns-2 : tie.Need-returns-2
 unfolding isDigit
 returns-2 c = rw (fails (leb 48 (c .before .before .args .b)) (lt-leb (c .before .before .args .b) 57 (c .if2 .taken)))
 
-cast-result : tie.Need-cast-result
-cast-result c = search needs
-
 returns-3 : tie.Need-returns-3
 unfolding isDigit
 returns-3 c = rw (le-leb 48 (c .before .before .args .b) (c .before .if1 .left), le-leb (c .before .before .args .b) 57 (c .if2 .left))
 
 pub digit-spec : {M : Type 1} → statement M
-digit-spec = tie.close (tie.spec returns returns-2 cast-result returns-3)
+digit-spec = tie.close (tie.spec returns returns-2 (λ c. search needs) returns-3)

@@ -11,12 +11,9 @@ returns : tie.Need-returns
 unfolding leadingZero
 returns c = rw (le-ltb 1 (length (c .before .args .t .now)) (omega arith))
 
-shared-slice-read-result : tie.Need-shared-slice-read-result
-shared-slice-read-result c = search needs
-
 returns-2 : tie.Need-returns-2
 unfolding leadingZero
 returns-2 c = rw (lt-ltb 1 (length (c .before .before .args .t .now)) (omega arith))
 
 pub leading-zero-spec : {M : Type 1} → statement M
-leading-zero-spec = tie.close (tie.spec returns shared-slice-read-result returns-2)
+leading-zero-spec = tie.close (tie.spec returns (λ c. search needs) returns-2)

@@ -21,9 +21,6 @@ loop-holds c = omega arith
 add-count : tie.Need-add-count Inv-loop μ-loop
 add-count c = record { fits = omega (arith, length-ten (c .before .before .args .x) (search needs), length-some (c .before .loop .rest)) }
 
-loop-less : tie.Need-loop-less Inv-loop μ-loop
-loop-less c = search needs
-
 loop-again : tie.Need-loop-again Inv-loop μ-loop
 loop-again c = omega (arith, length-more (c .before .loop .rest) (c .loop-test .taken))
 
@@ -32,4 +29,4 @@ returns c = omega (arith, length-one (c .before .loop .rest) (c .loop-test .left
 
 pub digit-count-spec : {M : Type 1} → statement M
 digit-count-spec =
-    tie.close (tie.spec Inv-loop μ-loop loop-holds add-count loop-less loop-again returns)
+    tie.close (tie.spec Inv-loop μ-loop loop-holds add-count (λ c. search needs) loop-again returns)

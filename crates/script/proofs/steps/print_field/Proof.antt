@@ -13,17 +13,8 @@ use Rattle.script.proofs.steps.print_field.Tie as tie
 slice-write-out : tie.Need-slice-write-out
 slice-write-out c = let a = c .before .before .args in omega (arith, field-long (a .has) (a .x) (a .end))
 
-add-out : tie.Need-add-out
-add-out c = search needs
-
 slice-write-out-2 : tie.Need-slice-write-out-2
 slice-write-out-2 c = let a = c .before .before .args in simp length-set (omega (arith, field-long (a .has) (a .x) (a .end)))
-
-add-result : tie.Need-add-result
-add-result c = search needs
-
-same-length : tie.Need-same-length
-same-length c = search needs
 
 returns : tie.Need-returns
 returns c =
@@ -55,9 +46,6 @@ add-result-2 c =
     let fits : a .at + length (digits (a .x) ++ (a .end ∷ [])) ≤ length l = (rw (field-number (a .has) (a .x) (a .end) (c .before .before .before .before .if1 .left)) at (c .before .before .before .before .before .before .pre)) in
     let room = room-then (c .before .before .print-number .ensures) (a .end ∷ []) fits in record { fits = omega arith }
 
-same-length-2 : tie.Need-same-length-2
-same-length-2 c = search needs
-
 returns-2 : tie.Need-returns-2
 returns-2 c =
     let a = c .before .before .before .before .before .before .args in
@@ -72,13 +60,13 @@ print-field-spec =
     tie.close
     (tie.spec
     slice-write-out
-    add-out
+    (λ c. search needs)
     slice-write-out-2
-    add-result
-    same-length
+    (λ c. search needs)
+    (λ c. search needs)
     returns
     print-number-requires
     slice-write-out-3
     add-result-2
-    same-length-2
+    (λ c. search needs)
     returns-2)

@@ -53,9 +53,6 @@ print-field-requires-4 c κs =
     let room3 = room-then (c .before .before .before .before .before .before .before .print-field2 .ensures) (f3 ++ f4) room2 in
     room-then (c .before .before .before .print-field3 .ensures) f4 room3
 
-same-length : tie.Need-same-length
-same-length c = search needs
-
 returns : tie.Need-returns
 unfolding printedLine
 returns c =
@@ -77,5 +74,5 @@ print-line-spec =
     print-field-requires-2
     print-field-requires-3
     print-field-requires-4
-    same-length
+    (λ c. search needs)
     returns)

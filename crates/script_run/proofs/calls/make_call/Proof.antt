@@ -10,15 +10,6 @@ use Rattle.script_run.proofs.Held.{call-write, call-read, call-deliver,
 use Rattle.script_run.proofs.calls.make_call.Statement.{statement}
 use Rattle.script_run.proofs.calls.make_call.Tie as tie
 
-begin-requires : tie.Need-begin-requires
-begin-requires c κs = search needs
-
-plain-requires : tie.Need-plain-requires
-plain-requires c κs = search needs
-
-same-length : tie.Need-same-length
-same-length c = search needs
-
 returns : tie.Need-returns
 returns c =
     let a = c .before .before .before .before .before .before .before .args in
@@ -26,15 +17,6 @@ returns c =
     call-plain (a .table .now) (callFor (a .kind) (a .member) (a .argument)) (begin (a .member) (a .member) 2 value)
     (call-write (a .kind) (a .member) (a .argument) (c .before .before .before .before .before .if1 .taken)) (begin-silent (a .member) (a .member) 2 value)
     (c .plain .result) (c .before .before .before .begin .result) (c .before .before .before .begin .last .0) (c .plain .ensures) (c .before .before .before .begin .ensures .0) (c .before .before .before .begin .ensures .1 .0)
-
-begin-requires-2 : tie.Need-begin-requires-2
-begin-requires-2 c κs = search needs
-
-plain-requires-2 : tie.Need-plain-requires-2
-plain-requires-2 c κs = search needs
-
-same-length-2 : tie.Need-same-length-2
-same-length-2 c = search needs
 
 returns-2 : tie.Need-returns-2
 returns-2 c =
@@ -44,26 +26,11 @@ returns-2 c =
     (call-read (a .kind) (a .member) (a .argument) (c .before .before .before .before .before .if2 .taken)) (begin-silent (a .member) (a .argument) 1 value)
     (c .plain2 .result) (c .before .before .before .begin2 .result) (c .before .before .before .begin2 .last .0) (c .plain2 .ensures) (c .before .before .before .begin2 .ensures .0) (c .before .before .before .begin2 .ensures .1 .0)
 
-deliver-requires : tie.Need-deliver-requires
-deliver-requires c κs = search needs
-
-same-length-3 : tie.Need-same-length-3
-same-length-3 c = search needs
-
 returns-3 : tie.Need-returns-3
 returns-3 c =
     let a = c .before .before .before .before .before .before .before .before .args in
     rw (call-deliver (a .kind) (a .member) (a .argument) (c .before .before .before .before .if3 .taken))
     (c .before .before .deliver .ensures .0, (c .before .before .deliver .ensures .1 .0, c .before .before .deliver .ensures .1 .1 .1 .0))
-
-crash-requires : tie.Need-crash-requires
-crash-requires c κs = search needs
-
-plain-requires-3 : tie.Need-plain-requires-3
-plain-requires-3 c κs = search needs
-
-same-length-4 : tie.Need-same-length-4
-same-length-4 c = search needs
 
 returns-4 : tie.Need-returns-4
 returns-4 c =
@@ -76,18 +43,18 @@ pub make-call-spec : {M : Type 1} → statement M
 make-call-spec =
     tie.close
     (tie.spec
-    begin-requires
-    plain-requires
-    same-length
+    (λ c κs. search needs)
+    (λ c κs. search needs)
+    (λ c. search needs)
     returns
-    begin-requires-2
-    plain-requires-2
-    same-length-2
+    (λ c κs. search needs)
+    (λ c κs. search needs)
+    (λ c. search needs)
     returns-2
-    deliver-requires
-    same-length-3
+    (λ c κs. search needs)
+    (λ c. search needs)
     returns-3
-    crash-requires
-    plain-requires-3
-    same-length-4
+    (λ c κs. search needs)
+    (λ c κs. search needs)
+    (λ c. search needs)
     returns-4)

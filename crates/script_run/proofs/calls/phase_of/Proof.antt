@@ -15,18 +15,12 @@ use Rattle.script_run.proofs.calls.phase_of.Tie as tie
 shared-slice-read-n : tie.Need-shared-slice-read-n
 shared-slice-read-n c = whole-some (c .before .before .args .table .now) (c .before .before .pre)
 
-is-numbered-requires : tie.Need-is-numbered-requires
-is-numbered-requires c κs = search needs
-
 phase-requires : tie.Need-phase-requires
 phase-requires c κs =
     let a = c .before .before .before .before .args in
     let n = words (a .table .now) 0 in
     let e : inside n (a .member) ≡ true = sym (c .before .is-numbered .ensures) ∙ c .if1 .taken in
     ((c .before .before .before .before .pre), record { least = inside-low n (a .member) e; most = inside-high n (a .member) e })
-
-returns : tie.Need-returns
-returns c = search needs
 
 returns-2 : tie.Need-returns-2
 unfolding phaseWords
@@ -39,4 +33,4 @@ returns-2 c =
 
 pub phase-of-spec : {M : Type 1} → statement M
 phase-of-spec =
-    tie.close (tie.spec shared-slice-read-n is-numbered-requires phase-requires returns returns-2)
+    tie.close (tie.spec shared-slice-read-n (λ c κs. search needs) phase-requires (λ c. search needs) returns-2)

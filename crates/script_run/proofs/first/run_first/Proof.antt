@@ -26,15 +26,6 @@ slice-aggregate-parse-members c =
     let r = c .before .before .before .before .pre .0 in
     sym (length-take-le (c .before .before .before .before .args .p .kept) (c .before .before .before .before .args .kept .now) (omega arith))
 
-parse-members-requires : tie.Need-parse-members-requires
-parse-members-requires c κs = search needs
-
-refuse-requires : tie.Need-refuse-requires
-refuse-requires c κs = search needs
-
-same-length : tie.Need-same-length
-same-length c = search needs
-
 returns : tie.Need-returns
 returns c =
     let a = c .before .before .before .before .before .before .before .before .before .before .before .args in
@@ -44,15 +35,6 @@ returns c =
     let e : o ≡ none = held-none o m (c .before .before .before .before .before .before .parse-members .ensures) (not-true (m .ok) (c .before .before .before .before .if1 .taken)) in
     refused-ran (a .p) (a .table .now) (a .kept .now) (a .out .now) (c .before .before .refuse .last .1 .1 .0) (a .at) (c .before .before .before .before .before .before .before .before .before .before .before .pre .0)
     (firstRun table o) (c .before .before .refuse .result) 17 (ap (firstRun table) e ∙ first-none table) (c .before .before .refuse .ensures .0) (c .before .before .refuse .ensures .1)
-
-is-numbered-requires : tie.Need-is-numbered-requires
-is-numbered-requires c κs = search needs
-
-refuse-requires-2 : tie.Need-refuse-requires-2
-refuse-requires-2 c κs = search needs
-
-same-length-2 : tie.Need-same-length-2
-same-length-2 c = search needs
 
 returns-2 : tie.Need-returns-2
 returns-2 c =
@@ -65,17 +47,11 @@ returns-2 c =
     refused-ran (a .p) (a .table .now) (a .kept .now) (a .out .now) (c .before .before .refuse2 .last .1 .1 .0) (a .at) (c .before .before .before .before .before .before .before .before .before .before .before .before .before .pre .0)
     (firstRun table o) (c .before .before .refuse2 .result) 1 (ap (firstRun table) e ∙ first-outside table (m .value) outside) (c .before .before .refuse2 .ensures .0) (c .before .before .refuse2 .ensures .1)
 
-cast-table-size : tie.Need-cast-table-size
-cast-table-size c = search needs
-
 table-size-requires : tie.Need-table-size-requires
 table-size-requires c κs =
     let n = c .before .before .before .before .parse-members .result .value in
     let within : inside 12 n ≡ true = sym (c .before .is-numbered .ensures) ∙ not-false (c .before .is-numbered .result) (c .if2 .left) in
     inside-high 12 n within
-
-slice-relend-prefix-open : tie.Need-slice-relend-prefix-open
-slice-relend-prefix-open c = search needs
 
 slice-aggregate-open : tie.Need-slice-aggregate-open
 slice-aggregate-open c =
@@ -83,21 +59,12 @@ slice-aggregate-open c =
     let s = c .before .table-size .ensures in
     sym (length-take-le (c .before .table-size .result) (c .before .before .before .before .before .before .before .before .before .before .before .args .table .now) (omega arith))
 
-open-requires : tie.Need-open-requires
-open-requires c κs = search needs
-
 print-board-requires : tie.Need-print-board-requires
 print-board-requires c κs =
     let n = c .before .before .before .before .before .before .before .before .before .before .parse-members .result .value in
     let within : inside 12 n ≡ true = sym (c .before .before .before .before .before .before .before .is-numbered .ensures) ∙ not-false (c .before .before .before .before .before .before .before .is-numbered .result) (c .before .before .before .before .before .before .if2 .left) in
     let most = inside-high 12 n within in
     omega (arith, board-short n (omega arith), c .before .before .before .before .before .before .before .before .before .before .before .before .before .before .before .pre .1)
-
-same-length-3 : tie.Need-same-length-3
-same-length-3 c = search needs
-
-same-length-4 : tie.Need-same-length-4
-same-length-4 c = search needs
 
 returns-3 : tie.Need-returns-3
 returns-3 c =
@@ -127,20 +94,20 @@ run-first-spec =
     tie.close
     (tie.spec
     slice-aggregate-parse-members
-    parse-members-requires
-    refuse-requires
-    same-length
+    (λ c κs. search needs)
+    (λ c κs. search needs)
+    (λ c. search needs)
     returns
-    is-numbered-requires
-    refuse-requires-2
-    same-length-2
+    (λ c κs. search needs)
+    (λ c κs. search needs)
+    (λ c. search needs)
     returns-2
-    cast-table-size
+    (λ c. search needs)
     table-size-requires
-    slice-relend-prefix-open
+    (λ c. search needs)
     slice-aggregate-open
-    open-requires
+    (λ c κs. search needs)
     print-board-requires
-    same-length-3
-    same-length-4
+    (λ c. search needs)
+    (λ c. search needs)
     returns-3)

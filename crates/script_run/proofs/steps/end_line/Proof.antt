@@ -14,22 +14,10 @@ use Rattle.script_run.proofs.States.{line-first, line-step, ended-ran}
 use Rattle.script_run.proofs.steps.end_line.Statement.{statement}
 use Rattle.script_run.proofs.steps.end_line.Tie as tie
 
-run-first-requires : tie.Need-run-first-requires
-run-first-requires c κs = search needs
-
-same-length : tie.Need-same-length
-same-length c = search needs
-
-same-length-2 : tie.Need-same-length-2
-same-length-2 c = search needs
-
 returns : tie.Need-returns
 returns c =
     let a = c .before .before .before .before .before .before .before .before .before .before .before .args in
     rw (line-first (a .p) (a .table .now) (a .kept .now) (c .before .before .before .before .before .before .before .if1 .taken)) (c .before .before .before .before .run-first .ensures)
-
-slice-relend-prefix-run-line : tie.Need-slice-relend-prefix-run-line
-slice-relend-prefix-run-line c = search needs
 
 slice-aggregate-run-line : tie.Need-slice-aggregate-run-line
 slice-aggregate-run-line c =
@@ -46,15 +34,6 @@ run-line-requires c κs =
     let r = c .before .before .before .before .before .before .before .pre .0 in
     let n = c .before .before .before .if1 .left in
     (r .whole (omega arith) (c .before .before .before .before .before .before .before .pre .1 .0), c .before .before .before .before .before .before .before .pre .1 .1)
-
-add-t21 : tie.Need-add-t21
-add-t21 c = search needs
-
-same-length-3 : tie.Need-same-length-3
-same-length-3 c = search needs
-
-same-length-4 : tie.Need-same-length-4
-same-length-4 c = search needs
 
 returns-2 : tie.Need-returns-2
 returns-2 c =
@@ -77,15 +56,15 @@ pub end-line-spec : {M : Type 1} → statement M
 end-line-spec =
     tie.close
     (tie.spec
-    run-first-requires
-    same-length
-    same-length-2
+    (λ c κs. search needs)
+    (λ c. search needs)
+    (λ c. search needs)
     returns
-    slice-relend-prefix-run-line
+    (λ c. search needs)
     slice-aggregate-run-line
     slice-aggregate-run-line-2
     run-line-requires
-    add-t21
-    same-length-3
-    same-length-4
+    (λ c. search needs)
+    (λ c. search needs)
+    (λ c. search needs)
     returns-2)

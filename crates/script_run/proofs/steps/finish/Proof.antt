@@ -21,9 +21,6 @@ returns c =
     let a = c .before .before .before .before .before .args in
     (omega arith, sym (last-over (a .p) (a .table .now) (a .kept .now) (c .if1 .taken)))
 
-begun-requires : tie.Need-begun-requires
-begun-requires c κs = search needs
-
 returns-2 : tie.Need-returns-2
 returns-2 c =
     let a = c .before .before .before .before .before .before .before .args in
@@ -32,15 +29,6 @@ returns-2 c =
     let printed : List ℕ = lineRun concur (stateOf (a .p) (a .table .now) (a .kept .now)) .printed in
     let e = last-begun (a .p) (a .table .now) (a .kept .now) (c .before .before .if1 .left) (omega arith) b (c .before .begun .ensures) in
     (omega arith, sym (e ∙ ap (λ t. cond t printed []) (not-true b (c .if2 .taken))))
-
-end-line-requires : tie.Need-end-line-requires
-end-line-requires c κs = search needs
-
-same-length : tie.Need-same-length
-same-length c = search needs
-
-same-length-2 : tie.Need-same-length-2
-same-length-2 c = search needs
 
 returns-3 : tie.Need-returns-3
 returns-3 c =
@@ -58,9 +46,9 @@ finish-spec =
     tie.close
     (tie.spec
     returns
-    begun-requires
+    (λ c κs. search needs)
     returns-2
-    end-line-requires
-    same-length
-    same-length-2
+    (λ c κs. search needs)
+    (λ c. search needs)
+    (λ c. search needs)
     returns-3)

@@ -9,17 +9,8 @@ use Rattle.script_run.proofs.steps.keep_byte.Tie as tie
 returns : tie.Need-returns
 returns c = (c .before .pre .1, sym (keep-full (c .before .args .kept .now) (c .before .args .count) (c .before .args .b) (c .before .pre .0) (c .if1 .taken)))
 
-slice-write-kept : tie.Need-slice-write-kept
-slice-write-kept c = search needs
-
-add-result : tie.Need-add-result
-add-result c = search needs
-
-same-length : tie.Need-same-length
-same-length c = search needs
-
 returns-2 : tie.Need-returns-2
 returns-2 c = (omega arith, keep-more (c .before .args .kept .now) (c .before .args .count) (c .before .args .b) (c .before .pre .0) (omega arith))
 
 pub keep-byte-spec : {M : Type 1} → statement M
-keep-byte-spec = tie.close (tie.spec returns slice-write-kept add-result same-length returns-2)
+keep-byte-spec = tie.close (tie.spec returns (λ c. search needs) (λ c. search needs) (λ c. search needs) returns-2)

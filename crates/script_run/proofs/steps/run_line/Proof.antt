@@ -10,16 +10,10 @@ use Rattle.script_run.proofs.Held.{wrote, whole-after, step-malformed, 
 use Rattle.script_run.proofs.steps.run_line.Statement.{statement}
 use Rattle.script_run.proofs.steps.run_line.Tie as tie
 
-parse-line-requires : tie.Need-parse-line-requires
-parse-line-requires c κs = search needs
-
 print-line-requires : tie.Need-print-line-requires
 print-line-requires c κs =
     let a = c .before .before .before .before .before .before .args in
     omega (arith, line-short (a .step) 17 0 0 false false (omega arith) (omega arith) (omega arith) (omega arith), c .before .before .before .before .before .before .pre .1)
-
-same-length : tie.Need-same-length
-same-length c = search needs
 
 returns : tie.Need-returns
 returns c =
@@ -29,17 +23,11 @@ returns c =
       rw e (wrote (c .before .before .print-line .ensures) (omega (arith, line-short (a .step) 17 0 0 false false (omega arith) (omega arith) (omega arith) (omega arith), c .before .before .before .before .before .before .before .before .before .pre .1))),
     )
 
-make-call-requires : tie.Need-make-call-requires
-make-call-requires c κs = search needs
-
 phase-of-requires : tie.Need-phase-of-requires
 phase-of-requires c κs =
     let a = c .before .before .before .before .before .before .before .before .before .before .args in
     let r = c .before .before .before .before .before .before .parse-line .result in
     rw (c .before .before .before .make-call .ensures .1 .1) (whole-after (a .table .now) (callFor (r .kind) (r .member) (r .argument)) (c .before .before .before .before .before .before .before .before .before .before .pre .0))
-
-last-word-requires : tie.Need-last-word-requires
-last-word-requires c κs = search needs
 
 print-line-requires-2 : tie.Need-print-line-requires-2
 print-line-requires-2 c κs =
@@ -49,12 +37,6 @@ print-line-requires-2 c κs =
     let g = c .before .before .before .phase-of .ok in
     let h = c .before .last-word .ok in
     omega (arith, line-short (a .step) (d .number) (c .before .before .before .phase-of .result) (c .before .last-word .result) (not (eqb (d .number) 4)) (d .returned) (omega arith) (omega arith) (omega arith) (omega arith), c .before .before .before .before .before .before .before .before .before .before .before .before .before .before .pre .1)
-
-same-length-2 : tie.Need-same-length-2
-same-length-2 c = search needs
-
-same-length-3 : tie.Need-same-length-3
-same-length-3 c = search needs
 
 returns-2 : tie.Need-returns-2
 returns-2 c =
@@ -76,14 +58,14 @@ pub run-line-spec : {M : Type 1} → statement M
 run-line-spec =
     tie.close
     (tie.spec
-    parse-line-requires
+    (λ c κs. search needs)
     print-line-requires
-    same-length
+    (λ c. search needs)
     returns
-    make-call-requires
+    (λ c κs. search needs)
     phase-of-requires
-    last-word-requires
+    (λ c κs. search needs)
     print-line-requires-2
-    same-length-2
-    same-length-3
+    (λ c. search needs)
+    (λ c. search needs)
     returns-2)

@@ -23,28 +23,10 @@ returns c =
     (byteFed concur (stateOf p (a .table .now) (a .kept .now)) (a .b)) (p .kept) (a .kept .now) room (r .keeps) (r .line)
     (byte-over p (a .table .now) (a .kept .now) (a .b) (c .if1 .taken)) (wrote-nothing (a .out .now) (a .at) room)
 
-end-line-requires : tie.Need-end-line-requires
-end-line-requires c κs = search needs
-
-same-length : tie.Need-same-length
-same-length c = search needs
-
-same-length-2 : tie.Need-same-length-2
-same-length-2 c = search needs
-
-same-length-3 : tie.Need-same-length-3
-same-length-3 c = search needs
-
 returns-2 : tie.Need-returns-2
 returns-2 c =
     let a = c .before .before .before .before .before .before .before .before .before .before .before .before .before .before .args in
     rw (byte-ends (a .p) (a .table .now) (a .kept .now) (a .b) (c .before .before .before .before .before .before .before .before .before .if1 .left) (c .before .before .before .before .before .before .before .before .if2 .taken)) (c .before .before .before .before .end-line .ensures)
-
-keep-byte-requires : tie.Need-keep-byte-requires
-keep-byte-requires c κs = search needs
-
-same-length-4 : tie.Need-same-length-4
-same-length-4 c = search needs
 
 returns-3 : tie.Need-returns-3
 returns-3 c =
@@ -66,11 +48,11 @@ take-byte-spec =
     tie.close
     (tie.spec
     returns
-    end-line-requires
-    same-length
-    same-length-2
-    same-length-3
+    (λ c κs. search needs)
+    (λ c. search needs)
+    (λ c. search needs)
+    (λ c. search needs)
     returns-2
-    keep-byte-requires
-    same-length-4
+    (λ c κs. search needs)
+    (λ c. search needs)
     returns-3)

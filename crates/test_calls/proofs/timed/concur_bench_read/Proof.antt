@@ -7,15 +7,9 @@ use Rattle.test_calls.specs.Counts.{bothCounts}
 use Rattle.test_calls.proofs.timed.concur_bench_read.Statement.{statement}
 use Rattle.test_calls.proofs.timed.concur_bench_read.Tie as tie
 
-read-requires : tie.Need-read-requires
-read-requires c κs = search needs
-
-wrapping-add-u32-requires : tie.Need-wrapping-add-u32-requires
-wrapping-add-u32-requires c κs = search needs
-
 returns : tie.Need-returns
 unfolding bothCounts fieldsIn recordIn
 returns c = c .wrapping-add-u32 .ensures ∙ ap bothCounts (c .before .read .ensures .1)
 
 pub concur-bench-read-spec : {M : Type 1} → statement M
-concur-bench-read-spec = tie.close (tie.spec read-requires wrapping-add-u32-requires returns)
+concur-bench-read-spec = tie.close (tie.spec (λ c κs. search needs) (λ c κs. search needs) returns)

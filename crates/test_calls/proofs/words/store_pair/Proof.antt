@@ -25,9 +25,6 @@ store-record-requires : tie.Need-store-record-requires
 unfolding recordSize
 store-record-requires c κs = (omega arith, omega arith)
 
-add-store-record : tie.Need-add-store-record
-add-store-record c = search needs
-
 store-record-requires-2 : tie.Need-store-record-requires-2
 unfolding recordSize
 store-record-requires-2 c κs = (omega arith, omega (arith, first c .store-record .kept .0))
@@ -46,4 +43,4 @@ returns c =
 pub store-pair-spec : {M : Type 1} → statement M
 store-pair-spec =
     tie.close
-    (tie.spec store-record-requires add-store-record store-record-requires-2 same-length returns)
+    (tie.spec store-record-requires (λ c. search needs) store-record-requires-2 same-length returns)
