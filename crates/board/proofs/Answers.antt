@@ -28,9 +28,10 @@ use Rattle.laws.proofs.Numbers.{no-ground}
 use Rattle.checks.specs.Needs.{Within}
 use Rattle.member.specs.Results.{Taken, returnedIn}
 use Rattle.member.specs.declared.Outcome.{Outcome}
-use Rattle.board.specs.Needs.{Table, Sound, Turn, Left, Answered}
-use Rattle.board.proofs.Lent.{left-words}
-use Rattle.board.proofs.Places.{table-positive}
+use Rattle.tables.specs.Needs.{Table, Left}
+use Rattle.board.specs.Needs.{Sound, Turn, Answered}
+use Rattle.tables.proofs.Lent.{left-words}
+use Rattle.tables.proofs.Places.{table-positive}
 
 -- a table that no number of its own refuses
 pub good : (l : List ℕ) → tableNumber concur l ≡ 0 → Sound (words l 0) l

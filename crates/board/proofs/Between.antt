@@ -20,8 +20,8 @@ use Rattle.laws.proofs.Tables.{member-at, entry-at, stored-at}
 use Rattle.checks.specs.Needs.{Within}
 use Rattle.member.specs.Results.{Taken}
 use Rattle.member.specs.declared.Outcome.{Outcome}
-use Rattle.board.specs.Needs.{Left}
-use Rattle.board.proofs.Lent.{part, back, BlockLent, HostLent, block-lent, member-lent, block-left, host-table, host-changed, entries-lent, stored-lent}
+use Rattle.tables.specs.Needs.{Left}
+use Rattle.tables.proofs.Lent.{part, back, BlockLent, HostLent, block-lent, member-lent, block-left, host-table, host-changed, entries-lent, stored-lent}
 
 -- the record that a block's member sends
 sent-read : (n i : ℕ) (v : ℕ → ℕ) → recordWithin n (sentRecord i (memberOf n v)) ≡ sentRecord i (memberOf n v)

@@ -12,8 +12,8 @@ ghost use Rattle.model.specs.Board.{boardDelivered, boardReturned};
 ghost use Rattle.model.specs.Runs.{begin as beginCall, deliver as deliverCall, crash as crashCall, answerOf, doneReturns};
 ghost use Rattle.model.specs.Table.{boardOf};
 ghost use Rattle.member.specs.Results.{Taken, returnedIn};
-ghost use Rattle.board.specs.Needs.{Table, Sound, Turn, Left, Answered};
-use crate::layout::block_at;
+ghost use Rattle.board.specs.Needs.{Sound, Turn, Answered};
+ghost use Rattle.tables.specs.Needs.{Table, Left};
 use crate::phases::commit_taken;
 use crate::phases::outcome_taken;
 use crate::phases::reply_taken;
@@ -27,6 +27,7 @@ use member::steps::deliver_refusal;
 use member::steps::mark_crashed;
 use member::steps::phase_of;
 use records::is_numbered;
+use tables::steps::block_at;
 
 pub fn begin_on(
     table: &mut [u32],

@@ -10,13 +10,13 @@ ghost use Rattle.model.specs.TableCalls.{openNumber, openWords, tableAnswer, ta
 ghost use Rattle.board.specs.Interface.{wordsFor, answerBeside, afterBeside, returnedSize, returnedAfter};
 use crate::calls::begin_on;
 use crate::calls::deliver_on;
-use crate::check::table_number;
 use crate::crash;
 use crate::open;
 use crate::steps::hand_out;
-use crate::steps::table_size;
 use records::is_numbered;
 use records::steps::load_value;
+use tables::check::table_number;
+use tables::steps::table_size;
 
 #[no_mangle]
 pub extern "C" fn concur_board_words(n: u32) -> u32

@@ -11,10 +11,7 @@ ghost use Rattle.model.specs.TableCalls.{openNumber, openWords, boardIn, tableA
 ghost use Rattle.member.specs.Results.{returnedIn};
 
 mod calls;
-mod check;
 mod interface;
-mod layout;
-mod opening;
 mod phases;
 pub mod steps;
 
@@ -22,11 +19,11 @@ use calls::begin_on;
 use calls::crash_on;
 use calls::deliver_on;
 use calls::nothing;
-use check::table_number;
 use member::Outcome;
-use opening::open_all;
 use records::is_numbered;
-use steps::table_size;
+use tables::check::table_number;
+use tables::steps::open_all;
+use tables::steps::table_size;
 
 // Opening, on a table whose old words are not looked at.
 pub fn open(table: &mut [u32], n: u32) -> u32

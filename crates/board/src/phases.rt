@@ -5,9 +5,8 @@ ghost use Rattle.model.specs.Board.{submitTaken, replyTaken, commitTaken, outco
 ghost use Rattle.model.specs.Member.{returnedBy};
 ghost use Rattle.model.specs.Table.{boardOf};
 ghost use Rattle.member.specs.Results.{Taken};
-ghost use Rattle.board.specs.Needs.{Turn, Left};
-use crate::layout::block_at;
-use crate::layout::host_at;
+ghost use Rattle.board.specs.Needs.{Turn};
+ghost use Rattle.tables.specs.Needs.{Left};
 use host::steps::commit;
 use host::steps::host_size;
 use host::steps::submit;
@@ -19,6 +18,8 @@ use member::steps::finish;
 use member::steps::judge;
 use member::steps::reply_noted;
 use member::steps::submit_of;
+use tables::steps::block_at;
+use tables::steps::host_at;
 
 // Phase 1: the host takes the submit, and the member notes the reply.
 pub fn submit_taken(table: &mut [u32], n: usize, member: u32)

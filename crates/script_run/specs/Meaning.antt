@@ -12,7 +12,7 @@ use Rattle.model.specs.Runs.{Call, begin, deliver, crash}
 use Rattle.model.specs.Kinds.{concur}
 use Rattle.model.specs.Script.{mostSteps}
 use Rattle.script.specs.Meaning.{Printed}
-use Rattle.board.specs.Needs.{Table}
+use Rattle.tables.specs.Needs.{Table}
 use Rattle.script_run.specs.Feeding.{State, Fed, mostKept, fed}
 use Rattle.script_run.specs.declared.Progress.{Progress}
 use Rattle.script_run.specs.declared.Next.{Next}

@@ -9,9 +9,9 @@ ghost use Rattle.script_run.specs.Meaning.{callFor, Whole};
 use board::begin;
 use board::crash;
 use board::deliver;
-use board::steps::phase;
 use member::Outcome;
 use records::is_numbered;
+use tables::steps::phase;
 
 const READ: u32 = 1;
 

@@ -9,11 +9,11 @@ use crate::MOST_STEPS;
 use crate::Next;
 use crate::Progress;
 use board::open;
-use board::steps::table_size;
 use records::is_numbered;
 use script::parse_members;
 use script::steps::print_board;
 use script::steps::print_refused;
+use tables::steps::table_size;
 
 // A first line that a number refuses: nothing follows it.
 fn refuse(p: Progress, number: u32, out: &mut [u8], at: usize) -> Next

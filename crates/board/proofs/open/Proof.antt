@@ -2,7 +2,7 @@ use borrow.Author.Needs.{needs}
 use mathlib.Core.Path.{sym, _∙_}
 use Rattle.lists.proofs.Functions.{inside-low, inside-high}
 use Rattle.laws.proofs.Tests.{refused, allowed}
-use Rattle.board.proofs.Opened.{size-refused, length-refused, opens}
+use Rattle.tables.proofs.Opened.{size-refused, length-refused, opens}
 use Rattle.board.proofs.open.Statement.{statement}
 use Rattle.board.proofs.open.Tie as tie
 

@@ -5,7 +5,7 @@ use Rattle.lists.specs.Parts.{words}
 use Rattle.model.specs.Kinds.{concur}
 use Rattle.model.specs.Runs.{begin, answerOf, done}
 use Rattle.laws.proofs.Tests.{refused, allowed}
-use Rattle.board.proofs.Lent.{block-lent, whole-block, member-lent, step-left}
+use Rattle.tables.proofs.Lent.{block-lent, whole-block, member-lent, step-left}
 use Rattle.board.proofs.Answers.{within, refuses, takes, no-begin, count-room}
 use Rattle.model.specs.RecordWords.{valueOf}
 use Rattle.model.specs.Numbers.{beginAnswer}

@@ -3,7 +3,7 @@ use mathlib.Core.Path.{sym, ap, _∙_}
 use native.Mathlib.Omega.{arith}
 use Rattle.model.specs.Runs.{deliver, answerOf, done, doneReturns}
 use Rattle.laws.proofs.Tests.{refused, allowed}
-use Rattle.board.proofs.Lent.{block-lent, whole-block, member-lent}
+use Rattle.tables.proofs.Lent.{block-lent, whole-block, member-lent}
 use Rattle.board.proofs.Answers.{within, no-deliver, hands, hands-none, turn}
 use Rattle.model.specs.Numbers.{deliverAnswer}
 use Rattle.board.proofs.calls.deliver_on.Statement.{statement}

@@ -1,5 +1,5 @@
 use borrow.Author.Needs.{needs}
-use Rattle.board.proofs.Lent.{block-lent, running-block, member-lent, step-left}
+use Rattle.tables.proofs.Lent.{block-lent, running-block, member-lent, step-left}
 use Rattle.model.specs.Member.{outcome}
 use Rattle.model.specs.Board.{outcomeTaken}
 use Rattle.board.proofs.Between.{taken-of}

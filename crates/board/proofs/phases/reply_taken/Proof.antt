@@ -1,5 +1,5 @@
 use borrow.Author.Needs.{needs}
-use Rattle.board.proofs.Lent.{block-lent, running-block, step-left}
+use Rattle.tables.proofs.Lent.{block-lent, running-block, step-left}
 use Rattle.model.specs.Member.{replied}
 use Rattle.model.specs.Board.{replyTaken}
 use Rattle.board.proofs.phases.reply_taken.Statement.{statement}

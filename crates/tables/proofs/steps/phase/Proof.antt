@@ -2,10 +2,10 @@ use borrow.Author.Needs.{needs}
 use mathlib.Core.Path.{ap, _∙_}
 use native.Mathlib.Omega.{arith}
 use Rattle.lists.specs.Parts.{words}
-use Rattle.board.proofs.Numbers.{phase-at}
-use Rattle.board.proofs.Places.{block-positive}
-use Rattle.board.proofs.steps.phase.Statement.{statement}
-use Rattle.board.proofs.steps.phase.Tie as tie
+use Rattle.tables.proofs.Numbers.{phase-at}
+use Rattle.tables.proofs.Places.{block-positive}
+use Rattle.tables.proofs.steps.phase.Statement.{statement}
+use Rattle.tables.proofs.steps.phase.Tie as tie
 
 shared-slice-read-result : tie.Need-shared-slice-read-result
 shared-slice-read-result c = omega (arith, block-positive (c .before .before .before .args .n), c .before .block-at .ensures .ends)

@@ -16,7 +16,7 @@ use Rattle.laws.proofs.Tables.{board-member-part, board-member-put, board-host-
 use Rattle.checks.specs.Needs.{Within}
 use Rattle.member.specs.Needs.{Block, Running}
 use Rattle.host.specs.Needs.{Entries, Slot}
-use Rattle.board.specs.Needs.{Table, Left, BlockPlace, HostPlace}
+use Rattle.tables.specs.Needs.{Table, Left, BlockPlace, HostPlace}
 
 -- A part of any table, put back: the table is whole, and its n stays.
 

@@ -6,9 +6,9 @@ use mathlib.Core.Path.{refl}
 use Rattle.lists.specs.Pieces.{place}
 use Rattle.model.specs.Table.{blockAt}
 use Rattle.laws.proofs.Tables.{block-small, table-small}
-use Rattle.board.proofs.Places.{block-ends}
-use Rattle.board.proofs.layout.block_at.Statement.{statement}
-use Rattle.board.proofs.layout.block_at.Tie as tie
+use Rattle.tables.proofs.Places.{block-ends}
+use Rattle.tables.proofs.steps.block_at.Statement.{statement}
+use Rattle.tables.proofs.steps.block_at.Tie as tie
 
 mul-result : tie.Need-mul-result
 mul-result c =

@@ -5,8 +5,8 @@ use native.Mathlib.Omega.{arith}
 use mathlib.Core.Path.{refl}
 use Rattle.model.specs.Table.{hostAt}
 use Rattle.laws.proofs.Tables.{block-small, table-small, host-room}
-use Rattle.board.proofs.layout.host_at.Statement.{statement}
-use Rattle.board.proofs.layout.host_at.Tie as tie
+use Rattle.tables.proofs.steps.host_at.Statement.{statement}
+use Rattle.tables.proofs.steps.host_at.Tie as tie
 
 mul-result : tie.Need-mul-result
 mul-result c =

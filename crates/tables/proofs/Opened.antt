@@ -17,9 +17,9 @@ use Rattle.model.specs.Table.{blocksAt, hostAt, tableSize, membersOf, hostOf, s
 use Rattle.model.specs.TableCalls.{openNumber, openWords}
 use Rattle.laws.proofs.Blocks.{member-zero}
 use Rattle.laws.proofs.Tables.{members-same, host-room}
-use Rattle.board.specs.Needs.{Table, Left}
-use Rattle.board.proofs.Places.{table-positive}
-use Rattle.board.proofs.Lent.{part, back, HostLent, host-table, host-changed, left-words}
+use Rattle.tables.specs.Needs.{Table, Left}
+use Rattle.tables.proofs.Places.{table-positive}
+use Rattle.tables.proofs.Lent.{part, back, HostLent, host-table, host-changed, left-words}
 
 zero-members : (n : ℕ) → membersOf n (λ i. 0) ≡ (λ i. idle)
 unfolding membersOf pieces from

@@ -8,10 +8,10 @@ use Rattle.lists.proofs.Functions.{each-none}
 use Rattle.model.specs.Kinds.{concur}
 use Rattle.model.specs.Table.{soundMember}
 use Rattle.laws.proofs.Tests.{stops, goes-on, ends}
-use Rattle.board.proofs.Numbers.{soundAt}
-use Rattle.board.proofs.Lent.{block-lent, whole-block, member-lent, next}
-use Rattle.board.proofs.check.sound_blocks.Statement.{statement}
-use Rattle.board.proofs.check.sound_blocks.Tie as tie
+use Rattle.tables.proofs.Numbers.{soundAt}
+use Rattle.tables.proofs.Lent.{block-lent, whole-block, member-lent, next}
+use Rattle.tables.proofs.check.sound_blocks.Statement.{statement}
+use Rattle.tables.proofs.check.sound_blocks.Tie as tie
 
 abbrev Inv-loop : tie.InvT-loop
 Inv-loop table n size passed₀ passed = (passed ≤ n) × (each passed (soundAt n table) ≡ true)

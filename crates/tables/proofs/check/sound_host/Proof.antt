@@ -1,8 +1,8 @@
 use borrow.Author.Needs.{needs}
 use mathlib.Core.Path.{_∙_}
-use Rattle.board.proofs.Lent.{host-lent, whole-entries, sound-lent}
-use Rattle.board.proofs.check.sound_host.Statement.{statement}
-use Rattle.board.proofs.check.sound_host.Tie as tie
+use Rattle.tables.proofs.Lent.{host-lent, whole-entries, sound-lent}
+use Rattle.tables.proofs.check.sound_host.Statement.{statement}
+use Rattle.tables.proofs.check.sound_host.Tie as tie
 
 sound-entries-requires : tie.Need-sound-entries-requires
 sound-entries-requires c κs = whole-entries (host-lent ((c .before .before .before .before .pre)) (c .before .before .host-at .ensures) (c .before .host-size .ensures))

@@ -13,7 +13,7 @@ use Rattle.model.specs.Kinds.{concur}
 use Rattle.model.specs.Table.{tableSize, blockAt, phaseAt, boardOf, tableNumber, soundMember, soundHost, soundBoard}
 use Rattle.model.specs.TableCalls.{phaseWords}
 use Rattle.checks.specs.Needs.{Within}
-use Rattle.board.specs.Needs.{Table}
+use Rattle.tables.specs.Needs.{Table}
 
 -- the check of member i's block in the table
 abbrev pub soundAt : ℕ → List ℕ → ℕ → Bool

@@ -3,11 +3,11 @@ use borrow.Author.Needs.{needs}
 use mathlib.Core.Path.{sym, _∙_}
 use native.Mathlib.Omega.{arith}
 use lib.ListN.{set, length-set}
-use Rattle.board.specs.Needs.{Table}
-use Rattle.board.proofs.Lent.{HostLent, host-lent, whole-entries, host-table}
-use Rattle.board.proofs.Opened.{some, sized-table, open-left}
-use Rattle.board.proofs.opening.open_all.Statement.{statement}
-use Rattle.board.proofs.opening.open_all.Tie as tie
+use Rattle.tables.specs.Needs.{Table}
+use Rattle.tables.proofs.Lent.{HostLent, host-lent, whole-entries, host-table}
+use Rattle.tables.proofs.Opened.{some, sized-table, open-left}
+use Rattle.tables.proofs.steps.open_all.Statement.{statement}
+use Rattle.tables.proofs.steps.open_all.Tie as tie
 
 -- What is known at each place, built on the place before.
 

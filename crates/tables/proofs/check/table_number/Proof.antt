@@ -3,10 +3,10 @@ use mathlib.Core.Path.{sym, _∙_}
 use borrow.Author.Tests.{eq-eqb, ne-eqb}
 use Rattle.lists.proofs.Functions.{inside-high}
 use Rattle.laws.proofs.Tests.{refused, allowed}
-use Rattle.board.proofs.Numbers.{empty-refused, size-refused, length-refused, blocks-refused, host-refused, none-refused, table-of}
+use Rattle.tables.proofs.Numbers.{empty-refused, size-refused, length-refused, blocks-refused, host-refused, none-refused, table-of}
 use native.Mathlib.Omega.{arith}
-use Rattle.board.proofs.check.table_number.Statement.{statement}
-use Rattle.board.proofs.check.table_number.Tie as tie
+use Rattle.tables.proofs.check.table_number.Statement.{statement}
+use Rattle.tables.proofs.check.table_number.Tie as tie
 
 returns : tie.Need-returns
 returns c = empty-refused (c .before .before .args .table .now) (c .if1 .taken)

@@ -1,0 +1,4 @@
+pub mod Lent
+pub mod Places
+pub mod Numbers
+pub mod Opened
