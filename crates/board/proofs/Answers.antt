@@ -2,15 +2,16 @@
 use Prim.Native.Nat.{ℕ, _+_, _<_, _^_}
 use native.Mathlib.Omega.{arith}
 use mathlib.Core.Path.{_≡_, refl, sym, ap, _∙_}
-use mathlib.Core.Bool.{true, false, cond, not}
+use mathlib.Core.Bool.{true, false, cond}
 use mathlib.Core.List.{List}
 use mathlib.Core.Option.{Option, none}
 use lib.Dec.{eqb}
 use lib.ListN.{length}
-use borrow.Author.Tests.{eqb-true, ne-eqb, not-false}
+use borrow.Author.Tests.{eqb-true, ne-eqb}
 use Rattle.lists.specs.Functions.{inside, each}
 use Rattle.lists.specs.Parts.{words}
 use Rattle.lists.proofs.Functions.{on, inside-low, inside-high, inside-in}
+use Rattle.lists.proofs.Refusals.{no-failure, number-refuses, stays}
 use Rattle.model.specs.Kinds.{concur}
 use Rattle.model.specs.Records.{Value, zeroValue}
 use Rattle.model.specs.RecordWords.{valueOf}
@@ -24,7 +25,6 @@ use Rattle.model.proofs.Answers.{deliver-taken}
 use Rattle.model.proofs.AsReference.{board-phase}
 use Rattle.laws.proofs.Sound.{board-parts}
 use Rattle.laws.proofs.Tables.{table-back}
-use Rattle.laws.proofs.Numbers.{no-ground}
 use Rattle.checks.specs.Needs.{Within}
 use Rattle.member.specs.Results.{Taken, returnedIn}
 use Rattle.member.specs.declared.Outcome.{Outcome}
@@ -38,18 +38,17 @@ pub good : (l : List ℕ) → tableNumber concur l ≡ 0 → Sound (words l 0) l
 unfolding tableNumber
 good l h =
     let n = words l 0 in
-    let p1 = no-ground (not (inside 12 n)) 3 _ (omega arith) h in
-    let p2 = no-ground (not (eqb (length l) (tableSize n))) 2 _ (omega arith) (p1 .1) in
-    let p3 = no-ground (not (soundBoard concur n (boardOf n (words l)))) 3 0 (omega arith) (p2 .1) in
-    let size = not-false (inside 12 n) (p1 .0) in
+    let p1 = no-failure (inside 12 n) (omega arith) h in
+    let p2 = no-failure (eqb (length l) (tableSize n)) (omega arith) (p1 .1) in
+    let p3 = no-failure (soundBoard concur n (boardOf n (words l))) (omega arith) (p2 .1) in
     record {
       table = record {
-        least = inside-low 12 n size;
-        most = inside-high 12 n size;
-        long = eqb-true (length l) (tableSize n) (not-false _ (p2 .0));
+        least = inside-low 12 n (p1 .0);
+        most = inside-high 12 n (p1 .0);
+        long = eqb-true (length l) (tableSize n) (p2 .0);
         size = refl;
       };
-      sound = not-false _ (p3 .0);
+      sound = p3 .0;
     }
 
 pub some-words : (l : List ℕ) → tableNumber concur l ≡ 0 → 0 < length l
@@ -76,27 +75,21 @@ module _ (n : ℕ) (l : List ℕ) (call : Call) where
 
 -- Any table, refused by a number of its own.
 module _ (l : List ℕ) (call : Call) (k : ℕ) (e : k ≡ tableNumber concur l) (ne : k ≡ 0 → ⊥) where
-  same : eqb (tableNumber concur l) 0 ≡ false
-  same = rw (← e) (ne-eqb k 0 ne)
-
   pub own-number : k ≡ tableAnswer concur l call
   unfolding tableAnswer
-  own-number = rw same e
-
-  refused : eqb (tableAnswer concur l call) 0 ≡ false
-  refused = rw (← own-number) (ne-eqb k 0 ne)
+  own-number = number-refuses _ e ne
 
   pub own-table : l ≡ tableAfter concur l call
   unfolding tableAfter
-  own-table = rw refused
+  own-table = stays l _ own-number ne
 
   pub own-board : boardIn l ≡ tableBoard concur l call
   unfolding tableBoard
-  own-board = rw refused
+  own-board = stays (boardIn l) _ own-number ne
 
   pub own-returns : none ≡ tableReturns concur l call
   unfolding tableReturns
-  own-returns = rw refused
+  own-returns = stays none _ own-number ne
 
 -- A table that passed its check, after a call.
 module _ {k : ℕ} (l exit : List ℕ) (call : Call) (e : k ≡ tableNumber concur l) (z : k ≡ 0) where

@@ -10,6 +10,7 @@ use borrow.Author.Tests.{eq-eqb, ne-eqb}
 use Rattle.lists.specs.Functions.{from, pasted, numbered}
 use Rattle.lists.specs.Parts.{words, tabulate, listed}
 use Rattle.lists.proofs.Functions.{on, put-at, pasted-below, from-pasted-at, numbered-at}
+use Rattle.lists.proofs.Refusals.{number-refuses, number-passes, stays, becomes}
 use Rattle.lists.proofs.Parts.{words-set, tabulate-same}
 use Rattle.lists.proofs.Pieces.{tabulate-join, tabulate-of}
 use Rattle.model.specs.Kinds.{concur}
@@ -29,18 +30,18 @@ module _ (long due : ℕ) (l : List ℕ) (call : Call) where
   -- refused, the table is as it was
   pub beside-refused : {k : ℕ} → k ≡ answerBeside long due l call → (k ≡ 0 → ⊥) → l ≡ afterBeside long due l call
   unfolding afterBeside
-  beside-refused {k} e ne = rw (← e, ne-eqb k 0 ne)
+  beside-refused e ne = stays l _ e ne
 
   -- by the table's own number
   pub beside-own : {k : ℕ} → k ≡ tableNumber concur l → (k ≡ 0 → ⊥) → k ≡ answerBeside long due l call
   unfolding answerBeside
-  beside-own {k} e ne = rw (← e, ne-eqb k 0 ne)
+  beside-own e ne = number-refuses _ e ne
 
   module _ {k : ℕ} (e : k ≡ tableNumber concur l) (z : k ≡ 0) where
     -- by the slice's length
     pub beside-long : (long ≡ due → ⊥) → 2 ≡ answerBeside long due l call
     unfolding answerBeside
-    beside-long ne = rw (sym e ∙ z, ne-eqb long due ne)
+    beside-long ne = number-passes e z (rw (ne-eqb long due ne))
 
     module _ (fits : long ≡ due) where
       same-call : tableAnswer concur l call ≡ answerBeside long due l call
@@ -76,12 +77,12 @@ handed r v e blank = on (r .returned)
 module _ (returned l : List ℕ) (call : Call) where
   pub returned-kept : {k : ℕ} → k ≡ answerBeside (length returned) returnedSize l call → (k ≡ 0 → ⊥) → returned ≡ returnedAfter returned l call
   unfolding returnedAfter
-  returned-kept {k} e ne = rw (← e, ne-eqb k 0 ne)
+  returned-kept e ne = stays returned _ e ne
 
   pub returned-written : 0 ≡ answerBeside (length returned) returnedSize l call → {written : List ℕ} → written ≡ returnedWords (tableReturns concur l call)
       → written ≡ returnedAfter returned l call
   unfolding returnedAfter
-  returned-written e h = rw (← e) h
+  returned-written e h = becomes returned _ (sym e) h
 
 -- the nine words, as they are written one after the other
 pub handed-words : (r exit value : List ℕ) (first : ℕ) → length r ≡ returnedSize → length exit ≡ length r

@@ -2,21 +2,21 @@
 use Prim.Native.Nat.{ℕ, _≤_}
 use native.Mathlib.Omega.{arith}
 use mathlib.Core.Path.{_≡_, sym, _∙_}
-use mathlib.Core.Bool.{Bool, true, false, cond, not}
+use mathlib.Core.Bool.{Bool, true, false, cond}
 use mathlib.Core.List.{List}
 use lib.Dec.{eqb}
 use lib.ListN.{length}
-use borrow.Author.Tests.{eqb-true, not-false}
+use borrow.Author.Tests.{eqb-true}
 use Rattle.lists.specs.Functions.{inside, put}
 use Rattle.lists.specs.Parts.{words}
 use Rattle.lists.proofs.Functions.{inside-low, inside-high}
+use Rattle.lists.proofs.Refusals.{no-ground, no-failure, no-number}
 use Rattle.model.specs.Records.{Rec, recordWithin}
 use Rattle.model.specs.Kinds.{concur, isOperation, barred}
 use Rattle.model.specs.Host.{Entry, submitted, wins, entryAfter, storedAfter}
 use Rattle.model.specs.Table.{hostSize, hostOf, storedRecordsOf, hostWords, soundHost, entriesNumber}
 use Rattle.model.specs.Halves.{hostNumber, submitWords, commitNumber, commitOutcome, commitWords}
 use Rattle.laws.proofs.Tables.{host-back}
-use Rattle.laws.proofs.Numbers.{no-ground, no-number}
 use Rattle.host.specs.Needs.{Slot}
 
 pub record Good (n : ℕ) (l : List ℕ) (i r t : ℕ) : Type 0 where
@@ -34,29 +34,25 @@ pub record Good (n : ℕ) (l : List ℕ) (i r t : ℕ) : Type 0 where
 pub good : (n : ℕ) (l : List ℕ) (i r t : ℕ) → hostNumber concur n l i r t ≡ 0 → Good n l i r t
 unfolding hostNumber entriesNumber
 good n l i r t h =
-    let host = hostOf n (words l) in
-    let stored = storedRecordsOf n (words l) in
-    let g1 = no-number _ _ h in
-    let p1 = not-false _ (no-ground (not (inside 12 n)) 1 0 (omega arith) (g1 .0) .0) in
-    let g2 = no-number _ _ (g1 .1) in
-    let p2 = no-ground (not (eqb (length l) (hostSize n))) 2 _ (omega arith) (g2 .0) in
-    let p3 = no-ground (not (soundHost n host stored)) 3 0 (omega arith) (p2 .1) in
-    let p4 = no-ground (not (inside n i)) 4 _ (omega arith) (g2 .1) in
-    let p5 = no-ground (not (inside n r)) 5 _ (omega arith) (p4 .1) in
-    let p6 = no-ground (not (isOperation t)) 6 _ (omega arith) (p5 .1) in
-    let p7 = no-ground (barred concur i r t) 7 0 (omega arith) (p6 .1) in
-    let member = not-false (inside n i) (p4 .0) in
-    let slot = not-false (inside n r) (p5 .0) in
+    let g1 = no-number _ h in
+    let p1 = no-failure (inside 12 n) (omega arith) (g1 .0) in
+    let g2 = no-number _ (g1 .1) in
+    let p2 = no-failure (eqb (length l) (hostSize n)) (omega arith) (g2 .0) in
+    let p3 = no-failure (soundHost n (hostOf n (words l)) (storedRecordsOf n (words l))) (omega arith) (p2 .1) in
+    let p4 = no-failure (inside n i) (omega arith) (g2 .1) in
+    let p5 = no-failure (inside n r) (omega arith) (p4 .1) in
+    let p6 = no-failure (isOperation t) (omega arith) (p5 .1) in
+    let p7 = no-ground (barred concur i r t) (omega arith) (p6 .1) in
     record {
-      least = inside-low 12 n p1;
-      most = inside-high 12 n p1;
-      long = eqb-true (length l) (hostSize n) (not-false _ (p2 .0));
-      sound = not-false _ (p3 .0);
-      memberLeast = inside-low n i member;
-      memberMost = inside-high n i member;
-      slotLeast = inside-low n r slot;
-      slotMost = inside-high n r slot;
-      operation = not-false _ (p6 .0);
+      least = inside-low 12 n (p1 .0);
+      most = inside-high 12 n (p1 .0);
+      long = eqb-true (length l) (hostSize n) (p2 .0);
+      sound = p3 .0;
+      memberLeast = inside-low n i (p4 .0);
+      memberMost = inside-high n i (p4 .0);
+      slotLeast = inside-low n r (p5 .0);
+      slotMost = inside-high n r (p5 .0);
+      operation = p6 .0;
       allowed = p7 .0;
     }
 

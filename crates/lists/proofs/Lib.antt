@@ -1,3 +1,4 @@
 pub mod Functions
 pub mod Parts
 pub mod Pieces
+pub mod Refusals

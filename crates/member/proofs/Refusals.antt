@@ -1,4 +1,4 @@
--- What a call's number says: where it is 0, what its step asks; and the words that the call leaves, refused or done.
+-- What a call's number says: where it is 0, what its step asks; and the words that the call then leaves.
 use Prim.Native.Nat.{ℕ, _+_, _<_, _^_}
 use mathlib.Core.Path.{_≡_, refl, sym, ap, _∙_}
 use mathlib.Core.Bool.{Bool, true, false, cond, not, _&&_, _||_}
@@ -9,48 +9,24 @@ use lib.ListN.{length}
 use borrow.Author.Tests.{eq-eqb, ne-eqb, eqb-true, leb-true, leb-false, not-false}
 use Rattle.lists.specs.Functions.{inside}
 use Rattle.lists.specs.Parts.{words}
-use Rattle.lists.proofs.Functions.{on, first, second, inside-low, inside-high}
+use Rattle.lists.proofs.Functions.{first, second, inside-low, inside-high}
+use Rattle.lists.proofs.Refusals.{no-ground, no-failure, no-number, number-refuses, number-passes, regrouped, becomes}
 use Rattle.model.specs.Records.{Rec}
 use Rattle.model.specs.Kinds.{concur, isOperation, barred}
-use Rattle.model.specs.Numbers.{beginAnswer, crashAnswer}
 use Rattle.model.specs.Member.{Member}
 use Rattle.model.specs.Table.{blockSize, memberOf, memberWords, soundRecord, soundOperation, soundMember, blockNumber}
 use Rattle.model.specs.Halves.{orElse, unlessRefused, fitRecord, memberNumber, memberBeginNumber, notWaiting, replyNumber, outcomeNumber, memberCrashNumber}
+use Rattle.model.proofs.Answers.{begin-taken}
 use Rattle.laws.proofs.Blocks.{member-back}
 use Rattle.checks.specs.Needs.{Within}
 use Rattle.member.specs.Needs.{Block, Running}
 
--- The number 0 has passed every ground.
-
-pub orElse-first : (a b : ℕ) → orElse a b ≡ 0 → a ≡ 0
-orElse-first a b h = on (eqb a 0) (λ e. eqb-true a 0 e) (λ e. rw e at h)
-
-pub orElse-rest : (a b : ℕ) → orElse a b ≡ 0 → b ≡ 0
-orElse-rest a b h = rw (eq-eqb a 0 (orElse-first a b h)) at h
-
--- a call whose first grounds are another call's number
-pub refused-first : {number a : ℕ} (b : ℕ) → number ≡ a → (number ≡ 0 → ⊥) → number ≡ orElse a b
-refused-first {number} {a} b e h = rw (ne-eqb a 0 (λ z. h (e ∙ z))) e
-
-pub passed-first : {number a b r : ℕ} → number ≡ a → number ≡ 0 → r ≡ b → r ≡ orElse a b
-passed-first {number} {a} e z h = rw (eq-eqb a 0 (sym e ∙ z)) h
-
-ground : (t : Bool) (k b : ℕ) → 0 < k → cond t k b ≡ 0 → t ≡ false
-ground true k b p h = absurd (omega arith)
-ground false k b p h = refl
-
-rest : (t : Bool) (k b : ℕ) → 0 < k → cond t k b ≡ 0 → b ≡ 0
-rest true k b p h = absurd (omega arith)
-rest false k b p h = h
-
--- the same where the other call makes one test more, number 10
+-- A call's number that also makes the test of number 10: refused by it, or answered by the grounds behind it.
 pub refused-waiting : {number : ℕ} (a : ℕ) (t : Bool) (b : ℕ) → number ≡ orElse a (cond t 10 0) → (number ≡ 0 → ⊥) → number ≡ orElse a (cond t 10 b)
-refused-waiting a true b e h = e
-refused-waiting a false b e h = on (eqb a 0) (λ p. absurd (h (rw p at e))) (λ p. rw p (rw p at e))
+refused-waiting a t b e h = number-refuses b e h ∙ regrouped a t 10 b (omega arith)
 
 pub passed-waiting : {number r : ℕ} (a : ℕ) (t : Bool) (b : ℕ) → number ≡ orElse a (cond t 10 0) → number ≡ 0 → r ≡ b → r ≡ orElse a (cond t 10 b)
-passed-waiting a t b e z h =
-    rw (eq-eqb a 0 (orElse-first a (cond t 10 0) (sym e ∙ z)), ground t 10 0 (omega arith) (orElse-rest a (cond t 10 0) (sym e ∙ z))) h
+passed-waiting a t b e z h = number-passes e z h ∙ regrouped a t 10 b (omega arith)
 
 neither : (a b : Bool) → (a || b) ≡ false → a ≡ false
 neither true b h = h
@@ -67,36 +43,18 @@ pub record Good (n i : ℕ) (l : List ℕ) : Type 0 where
 
 pub good : (n i : ℕ) (l : List ℕ) → memberNumber concur n i l ≡ 0 → Good n i l
 unfolding memberNumber blockNumber
-good n i l h = record {
-  block = record {
-    least = inside-low 12 n size;
-    most = inside-high 12 n size;
-    long = eqb-true (length l) (blockSize n) (not-false (eqb (length l) (blockSize n)) (ground (not (eqb (length l) (blockSize n))) 2 sound (omega arith) whole));
-  };
-  sound = not-false judged (ground (not judged) 3 0 (omega arith) (rest (not (eqb (length l) (blockSize n))) 2 sound (omega arith) whole));
-  member = numbered n i (not-false (inside n i) (ground (not (inside n i)) 4 0 (omega arith) (orElse-rest block member after)));
-}
-  where
-    judged : Bool
-    judged = soundMember concur n i (memberOf n (words l))
-
-    sound : ℕ
-    sound = cond (not judged) 3 0
-
-    block : ℕ
-    block = cond (not (eqb (length l) (blockSize n))) 2 sound
-
-    member : ℕ
-    member = cond (not (inside n i)) 4 0
-
-    size : inside 12 n ≡ true
-    size = not-false (inside 12 n) (ground (not (inside 12 n)) 1 0 (omega arith) (orElse-first (cond (not (inside 12 n)) 1 0) (orElse block member) h))
-
-    after : orElse block member ≡ 0
-    after = orElse-rest (cond (not (inside 12 n)) 1 0) (orElse block member) h
-
-    whole : block ≡ 0
-    whole = orElse-first block member after
+good n i l h =
+    let g1 = no-number _ h in
+    let p1 = no-failure (inside 12 n) (omega arith) (g1 .0) in
+    let g2 = no-number _ (g1 .1) in
+    let p2 = no-failure (eqb (length l) (blockSize n)) (omega arith) (g2 .0) in
+    let p3 = no-failure (soundMember concur n i (memberOf n (words l))) (omega arith) (p2 .1) in
+    let p4 = no-failure (inside n i) (omega arith) (g2 .1) in
+    record {
+      block = record { least = inside-low 12 n (p1 .0); most = inside-high 12 n (p1 .0); long = eqb-true (length l) (blockSize n) (p2 .0) };
+      sound = p3 .0;
+      member = numbered n i (p4 .0);
+    }
 
 -- a sound member in phase 1 to 5 runs an operation on a slot
 fourth-and-sixth : (a b c d e f g h : Bool) → (a && b && c && d && e && f && g && h) ≡ true → (d ≡ true) × (f ≡ true)
@@ -121,35 +79,15 @@ running n i l g h = record { block = g .block; slot = sound-slot n i (memberOf n
 
 -- What each call's step asks.
 
-begin-passed : (a b c d e f : Bool) → _≡_ {A = ℕ} (cond a 4 (cond b 5 (cond c 6 (cond d 7 (cond e 8 (cond f 9 0)))))) 0 → (b ≡ false) × (f ≡ false)
-begin-passed true b c d e f h = absurd (omega arith)
-begin-passed false true c d e f h = absurd (omega arith)
-begin-passed false false true d e f h = absurd (omega arith)
-begin-passed false false false true e f h = absurd (omega arith)
-begin-passed false false false false true f h = absurd (omega arith)
-begin-passed false false false false false true h = absurd (omega arith)
-begin-passed false false false false false false h = (refl, refl)
-
 pub begin-good : (n i : ℕ) (l : List ℕ) (r t : ℕ) → memberBeginNumber concur n i l r t ≡ 0
     → (Block n l) × ((Within n r) × (memberOf n (words l) .own r + 1 < 2 ^ 32))
-unfolding memberBeginNumber beginAnswer
-begin-good n i l r t h = (
-  good n i l (orElse-first (memberNumber concur n i l) answer h) .block,
-  (
-    numbered n r (not-false (inside n r) (passed .0)),
-    let few : m .own r < 4294967295 = leb-false 4294967295 (m .own r) (passed .1) in omega arith,
-  ),
-)
-  where
-    m : Member
-    m = memberOf n (words l)
-
-    answer : ℕ
-    answer = beginAnswer concur n (m .phase) (m .crashed) (m .own r) i r t
-
-    passed : (not (inside n r) ≡ false) × (leb 4294967295 (m .own r) ≡ false)
-    passed = begin-passed (not (inside n i)) (not (inside n r)) (not (isOperation t)) (barred concur i r t)
-        (not (eqb (m .phase) 0) || not (eqb (m .crashed) 0)) (leb 4294967295 (m .own r)) (orElse-rest (memberNumber concur n i l) answer h)
+unfolding memberBeginNumber
+begin-good n i l r t h =
+    let m = memberOf n (words l) in
+    let z = no-number (memberNumber concur n i l) h in
+    let k = begin-taken concur n (m .phase) (m .crashed) (m .own r) i r t (z .1) in
+    let room : m .own r < 4294967295 = k .room in
+    (good n i l (z .0) .block, (numbered n r (k .slot), omega arith))
 
 -- taking a message, in phase p
 waits : (p : ℕ) (m : Member) → notWaiting p m ≡ false → m .phase ≡ p
@@ -158,16 +96,11 @@ waits p m h = eqb-true (m .phase) p (not-false (eqb (m .phase) p) (neither (not 
 
 waiting-good : (n i : ℕ) (l : List ℕ) (p tail : ℕ) → inside 5 p ≡ true
     → orElse (memberNumber concur n i l) (cond (notWaiting p (memberOf n (words l))) 10 tail) ≡ 0 → (Running n l) × (Within n i)
-waiting-good n i l p tail h e = (running n i l g (rw (waits p m (ground (notWaiting p m) 10 tail (omega arith) after)) h), g .member)
-  where
-    m : Member
-    m = memberOf n (words l)
-
-    g : Good n i l
-    g = good n i l (orElse-first (memberNumber concur n i l) (cond (notWaiting p m) 10 tail) e)
-
-    after : cond (notWaiting p m) 10 tail ≡ 0
-    after = orElse-rest (memberNumber concur n i l) (cond (notWaiting p m) 10 tail) e
+waiting-good n i l p tail h e =
+    let m = memberOf n (words l) in
+    let z = no-number (memberNumber concur n i l) e in
+    let g = good n i l (z .0) in
+    (running n i l g (rw (waits p m (no-ground (notWaiting p m) (omega arith) (z .1) .0)) h), g .member)
 
 pub reply-good : (n i : ℕ) (l : List ℕ) (newest stored : Rec) (seals : ℕ) → replyNumber concur n i l newest stored seals ≡ 0
     → (Running n l) × (Within n i)
@@ -181,19 +114,9 @@ outcome-good n i l result h = waiting-good n i l 3 (cond (not (inside 2 result))
 
 pub crash-good : (n i : ℕ) (l : List ℕ) → memberCrashNumber concur n i l ≡ 0 → Block n l
 unfolding memberCrashNumber
-crash-good n i l h =
-    let m = memberOf n (words l) in
-    good n i l (orElse-first (memberNumber concur n i l) (crashAnswer n (m .phase) (m .crashed) i) h) .block
+crash-good n i l h = good n i l (no-number (memberNumber concur n i l) h .0) .block
 
--- What a call leaves and returns: what was before where it is refused, and else what its step makes.
-
-module _ {A : Type 0} {k : ℕ} (before changed : A) where
-  pub unchanged : {number : ℕ} → number ≡ k → (number ≡ 0 → ⊥) → before ≡ cond (eqb k 0) changed before
-  unchanged e h = rw (ne-eqb k 0 (λ z. h (e ∙ z)))
-
-  pub made : {after : A} → k ≡ 0 → after ≡ changed → after ≡ cond (eqb k 0) changed before
-  made z e = rw (eq-eqb k 0 z) e
-
+-- What a call that is done leaves: the words of what its step makes.
 pub words-made : (n : ℕ) {k : ℕ} (before after : List ℕ) (m : Member) → k ≡ 0 → length after ≡ blockSize n → memberOf n (words after) ≡ m
     → after ≡ unlessRefused k before (memberWords n m)
-words-made n before after m z h e = made before (memberWords n m) z (sym (member-back n after h) ∙ ap (memberWords n) e)
+words-made n before after m z h e = becomes before (memberWords n m) z (sym (member-back n after h) ∙ ap (memberWords n) e)

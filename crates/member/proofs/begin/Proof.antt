@@ -1,14 +1,15 @@
 -- `begin` meets its contract. Assumes nothing.
 use borrow.Author.Needs.{needs}
 use mathlib.Core.Path.{sym, _∙_}
+use Rattle.lists.proofs.Refusals.{stays}
 use Rattle.model.specs.Halves.{memberBeginWords}
-use Rattle.member.proofs.Refusals.{begin-good, unchanged, words-made}
+use Rattle.member.proofs.Refusals.{begin-good, words-made}
 use Rattle.member.proofs.begin.Statement.{statement}
 use Rattle.member.proofs.begin.Tie as tie
 
 returns : tie.Need-returns
 unfolding memberBeginWords
-returns c = (c .before .begin-number .ensures, unchanged _ _ (c .before .begin-number .ensures) (c .if1 .taken))
+returns c = (c .before .begin-number .ensures, stays _ _ (c .before .begin-number .ensures) (c .if1 .taken))
 
 begin-requires : tie.Need-begin-requires
 begin-requires c κs =

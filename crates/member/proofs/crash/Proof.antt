@@ -1,14 +1,15 @@
 -- `crash` meets its contract. Assumes nothing.
 use borrow.Author.Needs.{needs}
 use mathlib.Core.Path.{sym, _∙_}
+use Rattle.lists.proofs.Refusals.{stays}
 use Rattle.model.specs.Halves.{memberCrashWords}
-use Rattle.member.proofs.Refusals.{crash-good, unchanged, words-made}
+use Rattle.member.proofs.Refusals.{crash-good, words-made}
 use Rattle.member.proofs.crash.Statement.{statement}
 use Rattle.member.proofs.crash.Tie as tie
 
 returns : tie.Need-returns
 unfolding memberCrashWords
-returns c = (c .before .crash-number .ensures, unchanged _ _ (c .before .crash-number .ensures) (c .if1 .taken))
+returns c = (c .before .crash-number .ensures, stays _ _ (c .before .crash-number .ensures) (c .if1 .taken))
 
 mark-crashed-requires : tie.Need-mark-crashed-requires
 mark-crashed-requires c κs =

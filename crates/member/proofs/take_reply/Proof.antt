@@ -1,14 +1,15 @@
 -- `take_reply` meets its contract. Assumes nothing.
 use borrow.Author.Needs.{needs}
 use mathlib.Core.Path.{sym, _∙_}
+use Rattle.lists.proofs.Refusals.{stays}
 use Rattle.model.specs.Halves.{replyWords}
-use Rattle.member.proofs.Refusals.{reply-good, unchanged, words-made}
+use Rattle.member.proofs.Refusals.{reply-good, words-made}
 use Rattle.member.proofs.take_reply.Statement.{statement}
 use Rattle.member.proofs.take_reply.Tie as tie
 
 returns : tie.Need-returns
 unfolding replyWords
-returns c = (c .before .reply-number .ensures, unchanged _ _ (c .before .reply-number .ensures) (c .if1 .taken))
+returns c = (c .before .reply-number .ensures, stays _ _ (c .before .reply-number .ensures) (c .if1 .taken))
 
 reply-requires : tie.Need-reply-requires
 reply-requires c κs =

@@ -1,14 +1,15 @@
 -- `begin_number` meets its contract. Assumes nothing.
 use borrow.Author.Needs.{needs}
 use mathlib.Core.Path.{sym, _∙_}
+use Rattle.lists.proofs.Refusals.{number-refuses, number-passes}
 use Rattle.model.specs.Halves.{memberBeginNumber}
-use Rattle.member.proofs.Refusals.{good, refused-first, passed-first}
+use Rattle.member.proofs.Refusals.{good}
 use Rattle.member.proofs.numbers.begin_number.Statement.{statement}
 use Rattle.member.proofs.numbers.begin_number.Tie as tie
 
 returns : tie.Need-returns
 unfolding memberBeginNumber
-returns c = refused-first _ (c .before .member-number .ensures) (c .if1 .taken)
+returns c = number-refuses _ (c .before .member-number .ensures) (c .if1 .taken)
 
 begin-refusal-requires : tie.Need-begin-refusal-requires
 begin-refusal-requires c κs =
@@ -17,7 +18,7 @@ begin-refusal-requires c κs =
 
 returns-2 : tie.Need-returns-2
 unfolding memberBeginNumber
-returns-2 c = passed-first (c .before .before .member-number .ensures) (c .before .if1 .left) (c .begin-refusal .ensures)
+returns-2 c = number-passes (c .before .before .member-number .ensures) (c .before .if1 .left) (c .begin-refusal .ensures)
 
 pub begin-number-spec : {M : Type 1} → statement M
 begin-number-spec = tie.close (tie.spec (λ c κs. search needs) returns begin-refusal-requires returns-2)

@@ -1,14 +1,15 @@
 -- `crash_number` meets its contract. Assumes nothing.
 use borrow.Author.Needs.{needs}
 use mathlib.Core.Path.{sym, _∙_}
+use Rattle.lists.proofs.Refusals.{number-refuses, number-passes}
 use Rattle.model.specs.Halves.{memberCrashNumber}
-use Rattle.member.proofs.Refusals.{good, refused-first, passed-first}
+use Rattle.member.proofs.Refusals.{good}
 use Rattle.member.proofs.numbers.crash_number.Statement.{statement}
 use Rattle.member.proofs.numbers.crash_number.Tie as tie
 
 returns : tie.Need-returns
 unfolding memberCrashNumber
-returns c = refused-first _ (c .before .member-number .ensures) (c .if1 .taken)
+returns c = number-refuses _ (c .before .member-number .ensures) (c .if1 .taken)
 
 crash-refusal-requires : tie.Need-crash-refusal-requires
 crash-refusal-requires c κs =
@@ -17,7 +18,7 @@ crash-refusal-requires c κs =
 
 returns-2 : tie.Need-returns-2
 unfolding memberCrashNumber
-returns-2 c = passed-first (c .before .before .member-number .ensures) (c .before .if1 .left) (c .crash-refusal .ensures)
+returns-2 c = number-passes (c .before .before .member-number .ensures) (c .before .if1 .left) (c .crash-refusal .ensures)
 
 pub crash-number-spec : {M : Type 1} → statement M
 crash-number-spec = tie.close (tie.spec (λ c κs. search needs) returns crash-refusal-requires returns-2)
