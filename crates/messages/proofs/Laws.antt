@@ -1,5 +1,5 @@
 -- What is said once of messages by value and in bytes.
-use Prim.Native.Nat.{ℕ, suc, _+_, _*_, _/_, _≤_, _<_}
+use Prim.Native.Nat.{ℕ, _+_, _*_, _≤_}
 use mathlib.Core.Path.{_≡_, refl, sym, ap, _∙_}
 use mathlib.Core.Bool.{true}
 use mathlib.Core.List.{List, [], _∷_, _++_}
@@ -7,142 +7,18 @@ use mathlib.Core.Option.{none, some}
 use lib.Dec.{eqb}
 use borrow.Author.Tests.{ne-eqb, eqb-true, eqb-false}
 use native.Mathlib.Omega.{arith}
-use lib.ListN.{length, getD, set, drop, length-append, length-set, List·getD-append}
+use lib.ListN.{length, set, drop, length-append, List·getD-append}
 use lib.Seq.{getD-append-add}
-use Rattle.lists.specs.Functions.{from, pasted, numbered, inside}
-use Rattle.lists.specs.Parts.{words, tabulate}
-use Rattle.lists.proofs.Functions.{on, apart, inside-in, inside-low, inside-high, pasted-one, pasted-join, pasted-same, numbered-same, numbered-padded}
-use Rattle.lists.proofs.Parts.{words-set, words-more, tabulate-at, replaced-by}
-use Rattle.model.specs.RecordWords.{rowOf, matrixWord, recordWords}
+use Rattle.lists.specs.Functions.{pasted, inside}
+use Rattle.lists.specs.Parts.{words}
+use Rattle.lists.proofs.Functions.{on, apart, inside-in, inside-low, inside-high, pasted-join, pasted-same}
+use Rattle.lists.proofs.Parts.{tabulate-at, replaced-by}
+use Rattle.model.specs.RecordWords.{recordWords}
 use Rattle.model.specs.Records.{Rec}
-use Rattle.model.specs.Messages.{
-  Message,
-  submit,
-  reply,
-  commit,
-  outcome,
-  kindOf,
-  lengthOf,
-  numberBytes,
-  byteIn,
-  recordByte,
-  recordLength,
-  recordBytes,
-  encode,
-  fitMessage,
-  fitGiven,
-  writtenLength,
-  writeNumber,
-  writtenTo,
-}
-use Rattle.laws.proofs.Records.{row-next, matrixWord-at, head-words, value-words, matrix-words, valueOf-at}
-use Rattle.laws.proofs.Messages.{byteIn-at, byteIn-from, byteIn-same, byte-first, byte-further, length-recordBytes, length-encode, heading, reply-parts, commit-parts, writable-of}
-use Rattle.rows.specs.declared.Row.{Row}
-use Rattle.rows.specs.Meaning.{rowIn, matrixIn, noRow}
-use Rattle.rows.proofs.Laws.{count-at, row-at}
-use Rattle.records.specs.declared.Record.{Record}
-use Rattle.records.specs.Meaning.{recordIn}
+use Rattle.model.specs.Messages.{Message, submit, reply, commit, outcome, kindOf, lengthOf, numberBytes, recordByte, recordLength, recordBytes, encode, fitMessage, fitGiven, writtenLength, writeNumber, writtenTo}
+use Rattle.laws.proofs.Messages.{length-recordBytes, length-encode, heading, reply-parts, commit-parts, writable-of}
+use Rattle.message_bytes.proofs.Laws.{stored}
 use Rattle.messages.specs.Meaning.{Fields, messageOf}
-
--- A few bytes stored one by one: p's, from the place a + i on.
-
-abbrev pub stores : List ℕ → ℕ → ℕ → List ℕ → List ℕ
-stores l a i [] = l
-stores l a i (x ∷ p) = stores (set l (a + i) x) a (i + 1) p
-
-pub length-stores : (l : List ℕ) (a i : ℕ) (p : List ℕ) → length (stores l a i p) ≡ length l
-length-stores l a i [] = refl
-length-stores l a i (x ∷ p) = length-stores (set l (a + i) x) a (i + 1) p ∙ length-set l (a + i) x
-
-stores-more : (m : List ℕ) (a i : ℕ) (p : List ℕ) (g w : ℕ → ℕ) → a + (i + length p) ≤ length m → words m ≡ pasted a i g w
-    → ((k : ℕ) → k < length p → words p k ≡ g (i + k)) → words (stores m a i p) ≡ pasted a (i + length p) g w
-stores-more m a i [] g w fits e h = e ∙ ap (λ k. pasted a k g w) (let s : i ≡ i + 0 = omega arith in s)
-stores-more m a i (x ∷ p) g w fits e h =
-    let first : x ≡ g i = h 0 (omega arith) ∙ ap g (let s : i + 0 ≡ i = omega arith in s) in
-    stores-more (set m (a + i) x) a (i + 1) p g w (simp length-set (omega arith))
-    (words-more m a i (a + i) x g w e refl (omega arith) first)
-    (λ k q. h (suc k) (omega arith) ∙ ap g (let s : i + suc k ≡ i + 1 + k = omega arith in s))
-    ∙ ap (λ k. pasted a k g w) (let s : i + 1 + length p ≡ i + suc (length p) = omega arith in s)
-
--- the first of them at a itself
-pub stored : (l : List ℕ) (a x : ℕ) (p : List ℕ) → a + suc (length p) ≤ length l
-    → words (stores (set l a x) a 1 p) ≡ pasted a (suc (length p)) (words (x ∷ p)) (words l)
-stored l a x p fits =
-    stores-more (set l a x) a 1 p (words (x ∷ p)) (words l) (simp length-set (omega arith))
-    (words-set l a x (omega arith) ∙ pasted-one a (words (x ∷ p)) (words l))
-    (λ k h. ap (words (x ∷ p)) (let s : suc k ≡ 1 + k = omega arith in s))
-    ∙ ap (λ k. pasted a k (words (x ∷ p)) (words l)) (let s : 1 + length p ≡ suc (length p) = omega arith in s)
-
--- a row whose twelve counts are named one by one
-pub row-named : (r : Row) (n : ℕ) (g : ℕ → ℕ) → n ≤ 12 → r .counts ≡ tabulate 12 (pasted 0 n g (λ k. 0)) → rowIn r ≡ rowOf n g
-unfolding rowIn rowOf
-row-named r n g h e =
-    ap (λ l. numbered 12 0 (words l)) e
-    ∙ numbered-same 12 0 (words (tabulate 12 (pasted 0 n g (λ k. 0)))) (pasted 0 n g (λ k. 0)) (tabulate-at 12 (pasted 0 n g (λ k. 0)))
-    ∙ numbered-padded 12 n 0 g h
-
--- one row more of a matrix written
-pub row-written : (m : List Row) (n j a : ℕ) (w : ℕ → ℕ) → n ≤ 12 → j < n
-    → pasted (a + j * n * 4) (n * 4) (byteIn (words (getD m j noRow .counts))) (pasted a (j * n * 4) (byteIn (matrixWord n (matrixIn m))) w)
-    ≡ pasted a ((j + 1) * n * 4) (byteIn (matrixWord n (matrixIn m))) w
-unfolding from
-row-written m n j a w h p =
-    pasted-join a (j * n * 4) (n * 4) (byteIn (matrixWord n (matrixIn m))) (byteIn (words (getD m j noRow .counts))) w
-    (λ i q. let r : i / 4 < n = omega arith in
-    byteIn-same (words (getD m j noRow .counts)) (from (matrixWord n (matrixIn m)) (j * n)) i
-    (sym (matrixWord-at n (matrixIn m) j (i / 4) r ∙ ap (λ r. r (i / 4 + 1)) (row-at m j (omega arith)) ∙ count-at (getD m j noRow) (i / 4) (omega arith)))
-    ∙ sym (byteIn-from (matrixWord n (matrixIn m)) (j * n) i))
-    ∙ ap (λ k. pasted a k (byteIn (matrixWord n (matrixIn m))) w) (let s : j * n * 4 + n * 4 ≡ (j + 1) * n * 4 = omega (arith, row-next n j) in s)
-
--- A record written part by part: its three bytes, its count, its value, its matrix.
-module _ (n : ℕ) (r : Record) where
-  held : ℕ → ℕ
-  held = words (recordWords n (recordIn r))
-
-  first-bytes : (i : ℕ) → i < 3 → words (r .member ∷ r .slot ∷ r .operation ∷ []) i ≡ recordByte held i
-  unfolding held recordIn
-  first-bytes i h = sym (byte-first held i h ∙ head-words n (recordIn r) i (omega arith) ∙ List·getD-append (r .member ∷ r .slot ∷ r .operation ∷ []) (r .count ∷ []) 0 i h)
-
-  count-bytes : (i : ℕ) → i < 4 → words (numberBytes (r .count)) i ≡ recordByte held (3 + i)
-  unfolding held recordIn from
-  count-bytes i h =
-      let e : 0 * 4 + i ≡ i = omega arith in
-      ap (λ x. words (numberBytes x) i) (sym (head-words n (recordIn r) 3 (omega arith)))
-      ∙ sym (byteIn-at (from held 3) 0 i h)
-      ∙ ap (byteIn (from held 3)) e
-      ∙ sym (byte-further held 0 i)
-      ∙ ap (λ k. recordByte held (3 + k)) e
-
-  value-bytes : (i : ℕ) → i < 32 → byteIn (words (r .value)) i ≡ recordByte held (7 + i)
-  unfolding held recordIn
-  value-bytes i h =
-      byteIn-same (words (r .value)) (from held 4) i (sym (value-words n (recordIn r) (i / 4) (omega arith) ∙ valueOf-at (words (r .value)) (i / 4) (omega arith)))
-      ∙ sym (byte-further held 1 i)
-      ∙ ap (recordByte held) (let e : 3 + (1 * 4 + i) ≡ 7 + i = omega arith in e)
-
-  matrix-bytes : (i : ℕ) → i < n * n * 4 → byteIn (matrixWord n (matrixIn (r .matrix))) i ≡ recordByte held (39 + i)
-  unfolding held recordIn
-  matrix-bytes i h =
-      byteIn-same (matrixWord n (matrixIn (r .matrix))) (from held 12) i (sym (matrix-words n (recordIn r) (i / 4) (omega arith)))
-      ∙ sym (byte-further held 9 i)
-      ∙ ap (recordByte held) (let e : 3 + (9 * 4 + i) ≡ 39 + i = omega arith in e)
-
-  pub record-written : (l : List ℕ) (a : ℕ) → a + recordLength n ≤ length l → (s t u : List ℕ)
-      → words s ≡ pasted (a + 3) 4 (words (numberBytes (r .count))) (words (stores (set l a (r .member)) a 1 (r .slot ∷ r .operation ∷ [])))
-      → words t ≡ pasted (a + 7) 32 (byteIn (words (r .value))) (words s)
-      → words u ≡ pasted (a + 39) (n * n * 4) (byteIn (matrixWord n (matrixIn (r .matrix)))) (words t)
-      → words u ≡ pasted a (recordLength n) (recordByte (words (recordWords n (recordIn r)))) (words l)
-  unfolding held recordLength
-  record-written l a fits s t u p q e =
-      e
-      ∙ ap (pasted (a + 39) (n * n * 4) (byteIn (matrixWord n (matrixIn (r .matrix))))) (q
-      ∙ ap (pasted (a + 7) 32 (byteIn (words (r .value)))) (p
-      ∙ ap (pasted (a + 3) 4 (words (numberBytes (r .count)))) (stored l a (r .member) (r .slot ∷ r .operation ∷ []) (omega arith)
-      ∙ pasted-same a 3 (words (r .member ∷ r .slot ∷ r .operation ∷ [])) (recordByte held) (words l) first-bytes)
-      ∙ pasted-join a 3 4 (recordByte held) (words (numberBytes (r .count))) (words l) count-bytes)
-      ∙ pasted-join a 7 32 (recordByte held) (byteIn (words (r .value))) (words l) value-bytes)
-      ∙ pasted-join a 39 (n * n * 4) (recordByte held) (byteIn (matrixWord n (matrixIn (r .matrix)))) (words l) matrix-bytes
-      ∙ ap (λ k. pasted a k (recordByte held) (words l)) (let d : 39 + n * n * 4 ≡ 39 + 4 * (n * n) = omega arith in d)
 
 -- Runs of bytes one after the other, and a list whose front was written.
 

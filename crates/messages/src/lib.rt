@@ -3,14 +3,13 @@ ghost use mathlib.Core.Path.{_≡_};
 ghost use mathlib.Core.Option.{none};
 ghost use Rattle.model.specs.Messages.{readNumber};
 ghost use Rattle.messages.specs.Meaning.{fieldsIn, fieldsOf, fieldsRead, numberWritten, lengthWritten, outputAfter};
-use crate::numbers::length_of;
-use crate::numbers::reader_number;
 use crate::numbers::writer_number;
 use crate::reader::read_message;
 use crate::writer::write_message;
+use message_numbers::reader_number;
+use message_numbers::steps::length_of;
 use records::Record;
 
-mod bytes;
 mod numbers;
 mod reader;
 mod writer;

@@ -8,13 +8,13 @@ ghost use Rattle.lists.specs.Parts.{words};
 ghost use Rattle.model.specs.Messages.{submit, reply, commit, numberOf, recordLength, recordFrom, messageFrom, readNumber};
 ghost use Rattle.messages.specs.Meaning.{fieldsIn, fieldsOf};
 use crate::Message;
-use crate::bytes::read_number;
-use crate::bytes::read_record;
-use crate::bytes::wide;
-use crate::numbers::COMMIT;
-use crate::numbers::OUTCOME;
-use crate::numbers::REPLY;
-use crate::numbers::SUBMIT;
+use message_bytes::steps::read_number;
+use message_bytes::steps::read_record;
+use message_bytes::steps::wide;
+use message_numbers::COMMIT;
+use message_numbers::OUTCOME;
+use message_numbers::REPLY;
+use message_numbers::SUBMIT;
 use records::Record;
 
 fn read_submit(s: &[u8]) -> Message

@@ -9,13 +9,13 @@ ghost use Rattle.model.specs.Messages.{reply, commit, numberBytes, recordLength
 ghost use Rattle.records.specs.Meaning.{recordIn};
 ghost use Rattle.messages.specs.Meaning.{fieldsIn, messageOf};
 use crate::Message;
-use crate::bytes::write_number;
-use crate::bytes::write_record;
-use crate::numbers::COMMIT;
-use crate::numbers::OUTCOME;
-use crate::numbers::REPLY;
-use crate::numbers::SUBMIT;
-use crate::numbers::length_of;
+use message_bytes::steps::write_number;
+use message_bytes::steps::write_record;
+use message_numbers::COMMIT;
+use message_numbers::OUTCOME;
+use message_numbers::REPLY;
+use message_numbers::SUBMIT;
+use message_numbers::steps::length_of;
 use records::Record;
 
 // The first five bytes: length, version, kind, and what stands first in the kind's fields.

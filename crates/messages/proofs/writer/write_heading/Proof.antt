@@ -3,7 +3,7 @@ use borrow.Author.Needs.{needs}
 use mathlib.Core.List.{[], _∷_}
 use native.Mathlib.Omega.{arith}
 use lib.ListN.{length-set}
-use Rattle.messages.proofs.Laws.{stored}
+use Rattle.message_bytes.proofs.Laws.{stored}
 use Rattle.messages.proofs.writer.write_heading.Statement.{statement}
 use Rattle.messages.proofs.writer.write_heading.Tie as tie
 

@@ -1,0 +1,40 @@
+-- `write_number` meets its contract. Assumes nothing.
+use borrow.Author.Needs.{needs}
+use native.Mathlib.Omega.{arith}
+use mathlib.Core.List.{[], _∷_}
+use lib.ListN.{length-set}
+use Rattle.model.specs.Messages.{numberBytes}
+use Rattle.message_bytes.proofs.Laws.{stored}
+use Rattle.message_bytes.proofs.steps.write_number.Statement.{statement}
+use Rattle.message_bytes.proofs.steps.write_number.Tie as tie
+
+slice-write-t-2 : tie.Need-slice-write-t-2
+slice-write-t-2 c = simp length-set (omega arith)
+
+slice-write-t-3 : tie.Need-slice-write-t-3
+slice-write-t-3 c = simp length-set (omega arith)
+
+slice-write-t-4 : tie.Need-slice-write-t-4
+slice-write-t-4 c = simp length-set (omega arith)
+
+returns : tie.Need-returns
+unfolding numberBytes
+returns c = stored (c .args .t .now) (c .args .at) _ (_ ∷ _ ∷ _ ∷ []) (omega arith)
+
+pub write-number-spec : {M : Type 1} → statement M
+write-number-spec =
+    tie.close
+    (tie.spec
+    (λ c. search needs)
+    (λ c. search needs)
+    (λ c. search needs)
+    (λ c. search needs)
+    slice-write-t-2
+    (λ c. search needs)
+    (λ c. search needs)
+    slice-write-t-3
+    (λ c. search needs)
+    (λ c. search needs)
+    slice-write-t-4
+    (λ c. search needs)
+    returns)

@@ -1,0 +1,60 @@
+-- `write_row` meets its contract: i counts are written. Assumes nothing.
+use borrow.Author.Needs.{needs}
+use Prim.Native.Nat.{_+_, _-_, _*_, _≤_}
+use mathlib.Core.Path.{_≡_, refl, sym, ap, _∙_}
+use native.Mathlib.Omega.{arith}
+use lib.ListN.{length}
+use Rattle.lists.specs.Functions.{pasted}
+use Rattle.lists.specs.Parts.{words}
+use Rattle.lists.proofs.Functions.{pasted-none}
+use Rattle.model.specs.Messages.{byteIn}
+use Rattle.laws.proofs.Messages.{number-more}
+use Rattle.message_bytes.proofs.steps.write_row.Statement.{statement}
+use Rattle.message_bytes.proofs.steps.write_row.Tie as tie
+
+abbrev Inv-loop : tie.InvT-loop
+Inv-loop t₀ at n row i₀ t i = (i ≤ n) × ((length t ≡ length t₀) × (words t ≡ pasted at (i * 4) (byteIn (words (row .counts))) (words t₀)))
+
+abbrev μ-loop : tie.MeasureT-loop
+μ-loop t₀ at n row i₀ t i = n - i
+
+loop-holds : tie.Need-loop-holds Inv-loop μ-loop
+loop-holds c = (search needs, (refl, sym (pasted-none _ _ _)))
+
+loop-again : tie.Need-loop-again Inv-loop μ-loop
+loop-again c =
+    let a = (c .before .before .before .before .before .before .before .before .args) in
+    let l = (c .before .before .before .before .before .before .loop) in (
+      search needs,
+      (
+        search needs,
+        c .before .before .write-number .ensures
+            ∙ ap (pasted (a .at + l .i * 4) 4 _) (l .inv .1 .1)
+            ∙ number-more (words (a .t4 .counts)) (a .at) (l .i) (words (a .t .now)),
+      ),
+    )
+
+returns : tie.Need-returns Inv-loop μ-loop
+returns c =
+    let a = (c .before .before .before .args) in
+    let l = (c .before .loop) in
+    let e : l .i ≡ a .n = omega arith in
+    rw e at (l .inv .1 .1)
+
+pub write-row-spec : {M : Type 1} → statement M
+write-row-spec =
+    tie.close
+    (tie.spec
+    Inv-loop
+    μ-loop
+    loop-holds
+    (λ c. search needs)
+    (λ c. search needs)
+    (λ c. search needs)
+    (λ c. search needs)
+    (λ c κs. search needs)
+    (λ c. search needs)
+    (λ c. search needs)
+    loop-again
+    (λ c. search needs)
+    returns)

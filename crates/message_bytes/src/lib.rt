@@ -1,0 +1,3 @@
+// Numbers and records in the bytes of a message.
+
+pub mod steps;
