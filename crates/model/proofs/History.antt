@@ -13,7 +13,7 @@ use Rattle.model.specs.Numbers.{deliverAnswer}
 use Rattle.model.specs.Board.{Board}
 use Rattle.model.specs.Runs.{Call, begin, deliver, crash, Seen}
 use Rattle.model.specs.Reference.{Reference, refIdle, refOpened, refAnswer, refDone, refDoneReturns, refAfter, refSeen, refRun, refLeft}
-use Rattle.model.specs.History.{Watch, begunOp, watchCall, watchStep, watchFrom, nothingYet, watched, acceptedOf, lastWritten}
+use Rattle.model.specs.History.{Watch, noOp, watchCall, watchStep, watchFrom, nothingYet, watched, acceptedOf, lastWritten}
 use Rattle.lists.specs.Every.{Every}
 use Rattle.model.specs.ReplyChecks.{Checked}
 use Rattle.model.specs.Demand3.{Demand3}
@@ -25,7 +25,7 @@ use Rattle.model.proofs.HistorySteps.{refused-step, begin-step, crash-s
 
 -- at first nobody runs anything, and nothing has happened
 agree-opened : Agrees refOpened nothingYet
-unfolding refOpened nothingYet refIdle begunOp acceptedOf lastWritten
+unfolding refOpened nothingYet refIdle noOp acceptedOf lastWritten
 agree-opened = record {
   running = λ i. record {
     noHalt = omega arith;

@@ -57,13 +57,13 @@ module _ {steps : ℕ} {submits : List Submit} {ops : List Op} (h : Past steps s
   }
 
   -- a submit taken at this step is past every verdict so far
-  pub past-submit : (r : ℕ) → Past (steps + 1) (record { at = steps + 1; slot = r } ∷ submits) ops
-  past-submit r = record {
+  pub past-submit : (s : Submit) → s .at ≡ steps + 1 → Past (steps + 1) (s ∷ submits) ops
+  past-submit s now = record {
     taken = (omega arith, taken-later);
     judged = every (λ o j. record {
       began = omega arith;
       decided = omega arith;
-      verdict = j .verdict ∙ ap not (sym (contested-past o (record { at = steps + 1; slot = r }) submits (omega arith)));
+      verdict = j .verdict ∙ ap not (sym (contested-past o s submits (omega arith)));
     }) ops (h .judged);
     reads = h .reads;
     realTime = h .realTime;
@@ -127,28 +127,31 @@ between : (p : ℕ) → 2 ≤ p → p ≤ 3 → (eqb p 2 || eqb p 3) ≡ true
 between p g h = on (eqb p 2) (λ e. rw e) (λ e. let d : p ≡ 2 → ⊥ = eqb-false p 2 e in rw (e, eq-eqb p 3 (omega arith)))
 
 running-beside : {phase : ℕ} {v : Bool} {g : Operation} {o : Op} {submits : List Submit} {steps : ℕ}
-    → Running phase v g o submits steps → (r : ℕ) (u : Bool) → (phase ≡ 1 → u ≡ false)
-    → (2 ≤ phase → phase ≤ 3 → u ≡ (eqb r (g .slot) || v))
-    → Running phase u g o (record { at = steps + 1; slot = r } ∷ submits) (steps + 1)
+    → Running phase v g o submits steps → (s : Submit) → s .at ≡ steps + 1 → (u : Bool) → (phase ≡ 1 → u ≡ false)
+    → (2 ≤ phase → phase ≤ 3 → u ≡ (eqb (s .slot) (g .slot) || v))
+    → Running phase u g o (s ∷ submits) (steps + 1)
 unfolding decidedOp
-running-beside {o} {submits} {steps} h r u fresh taken = record {
+running-beside {o} {submits} {steps} h s now u fresh taken = record {
   noHalt = h .noHalt;
   asGiven = h .asGiven;
   began = omega arith;
   submitted = omega arith;
   fresh = fresh;
   contest = λ p q at a l. taken p q ∙ rw (← h .asGiven (omega arith), h .contest p q at a (omega arith))
-      (sym (contested-within (decidedOp at a o) (record { at = steps + 1; slot = r }) submits (omega arith) l));
+      (sym (contested-within (decidedOp at a o) s submits (omega arith) (omega arith)));
 }
 
 pub bystander : (i : ℕ) (m : RefMember) (o : Op) (submits : List Submit) (steps : ℕ) → RunningAt submits steps i m o
-    → (r q : ℕ) → r ≡ q → RunningAt (record { at = steps + 1; slot = r } ∷ submits) (steps + 1) i (cond (submittedOn q m) (refOvertaken m) m) o
+    → (s : Submit) → s .at ≡ steps + 1 → (r : ℕ) → s .slot ≡ r
+    → RunningAt (s ∷ submits) (steps + 1) i (cond (submittedOn r m) (refOvertaken m) m) o
 unfolding submittedOn refOvertaken operationOf
-bystander i m o submits steps h r q same = split (λ x. RunningAt (record { at = steps + 1; slot = r } ∷ submits) (steps + 1) i x o)
-    (submittedOn q m)
-    (λ e. running-beside h r true
-    (λ d. absurd (apart (second (eqb (m .slot) q) (eqb (m .phase) 2 || eqb (m .phase) 3) e) (rw d)))
-    (λ c d. rw (eq-eqb r (m .slot) (same ∙ sym (eqb-true (m .slot) q (first (eqb (m .slot) q) (eqb (m .phase) 2 || eqb (m .phase) 3) e))))))
-    (λ e. running-beside h r (m .overtaken)
+bystander i m o submits steps h s now r same =
+    let on-slot = eqb (m .slot) r in
+    let waits = eqb (m .phase) 2 || eqb (m .phase) 3 in
+    split (λ x. RunningAt (s ∷ submits) (steps + 1) i x o) (submittedOn r m)
+    (λ e. running-beside h s now true
+    (λ d. absurd (apart (second on-slot waits e) (rw d)))
+    (λ c d. rw (eq-eqb (s .slot) (m .slot) (same ∙ sym (eqb-true (m .slot) r (first on-slot waits e))))))
+    (λ e. running-beside h s now (m .overtaken)
     (h .fresh)
-    (λ c d. rw (ne-eqb r (m .slot) (λ f. apart (both (eq-eqb (m .slot) q (sym f ∙ same)) (between (m .phase) c d)) e))))
+    (λ c d. rw (ne-eqb (s .slot) (m .slot) (λ f. apart (both (eq-eqb (m .slot) r (sym f ∙ same)) (between (m .phase) c d)) e))))

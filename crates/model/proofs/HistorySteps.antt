@@ -13,7 +13,7 @@ use Rattle.lists.proofs.Functions.{apart, put-at, put-off}
 use Rattle.model.specs.Records.{Value, read}
 use Rattle.model.specs.Runs.{Seen}
 use Rattle.model.specs.Reference.{Operation, RefMember, Reference, refBegun, refMoved, refOvertaken, submittedOn, refSubmit, refReply, refAccepted, operationOf, refAccept, refAbort, refCommit, refEnded, refEnd, refReturned, refDelivered, refMarked}
-use Rattle.model.specs.History.{Op, Submit, Watch, begunOp, submittedOp, decidedOp, ended, watchDeliver}
+use Rattle.model.specs.History.{Op, Submit, Watch, begunOp, submittedOp, submitOf, decidedOp, ended, watchDeliver}
 use Rattle.model.proofs.HistoryInvariant.{RunningAt, Right, PendingAt, Past, Book, Agrees}
 use Rattle.model.proofs.HistoryParts.{running-later, running-moved, past-later, past-submit, past-decided, past-ended, book-aborted, book-accepted, book-ended, bystander}
 use Rattle.model.proofs.HistoryLists.{split, contested-none, pending-ended}
@@ -73,11 +73,16 @@ module _ (ref : Reference) (w : Watch) (h : Agrees ref w) (i : ℕ) where
 
   pub begin-step : (r t : ℕ) (v : Value) → Agrees
       (record { values = ref .values; members = put (ref .members) i (refBegun (ref .members i) r t v); history = ref .history })
-      (record { steps = w .steps + 1; running = put (w .running) i (begunOp (w .steps + 1) i r t v); submits = w .submits; decided = w .decided })
+      (record {
+        steps = w .steps + 1;
+        running = put (w .running) i (begunOp (w .steps + 1) i r t v (w .running i));
+        submits = w .submits;
+        decided = w .decided;
+      })
   unfolding refBegun begunOp operationOf
   begin-step r t v = record {
     running = touched-both (RunningAt (w .submits) (w .steps + 1)) (ref .members) (w .running) i
-        (refBegun (ref .members i) r t v) (begunOp (w .steps + 1) i r t v)
+        (refBegun (ref .members i) r t v) (begunOp (w .steps + 1) i r t v (w .running i))
         (record {
           noHalt = omega arith;
           asGiven = λ p. refl;
@@ -116,14 +121,13 @@ module _ (ref : Reference) (w : Watch) (h : Agrees ref w) (i : ℕ) (s : Seen) w
 
   -- its submit is taken
   submit-step : ref .members i .phase ≡ 1 → Kept (refSubmit ref i)
-  unfolding refSubmit watchDeliver refMoved refOvertaken submittedOp decidedOp operationOf refReturned
+  unfolding refSubmit watchDeliver refMoved refOvertaken submittedOp submitOf decidedOp operationOf refReturned
   submit-step one seen =
       let m = ref .members i in
       let o = w .running i in
-      let r = o .given .slot in
       let g : o .given ≡ operationOf i m = h .running i .asGiven (omega arith) in
-      let submits : List Submit = record { at = w .steps + 1; slot = r } ∷ w .submits in
-      let past : Past (w .steps + 1) submits (w .decided) = past-submit (h .past) r in
+      let submits : List Submit = submitOf (w .steps + 1) i o ∷ w .submits in
+      let past : Past (w .steps + 1) submits (w .decided) = past-submit (h .past) (submitOf (w .steps + 1) i o) refl in
       let others : ℕ → RefMember =
       λ k. cond (submittedOn (m .slot) (ref .members k)) (refOvertaken (ref .members k)) (ref .members k) in
       rw (seen ∙ phase-at _ i _) (record {
@@ -137,8 +141,8 @@ module _ (ref : Reference) (w : Watch) (h : Agrees ref w) (i : ℕ) (s : Seen) w
               contest = λ p q at a l. h .running i .fresh one
                   ∙ sym (contested-none (decidedOp at a (submittedOp (w .steps + 1) o)) submits (past .taken));
             })
-            (λ k d. bystander k (ref .members k) (w .running k) (w .submits) (w .steps) (h .running k) r (m .slot)
-            (ap (λ x. x .slot) g));
+            (λ k d. bystander k (ref .members k) (w .running k) (w .submits) (w .steps) (h .running k)
+            (submitOf (w .steps + 1) i o) refl (m .slot) (ap (λ x. x .slot) g));
         pending = touched (PendingAt (w .decided)) others i (refMoved m 2)
             (λ p. absurd (omega arith))
             (λ k d. split (PendingAt (w .decided) k) (submittedOn (m .slot) (ref .members k))

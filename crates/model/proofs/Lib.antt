@@ -9,6 +9,7 @@ pub mod AsReference
 pub mod HistoryInvariant
 pub mod HistoryLists
 pub mod Phases
+pub mod Ordinals
 pub mod PositionsInvariant
 pub mod PositionsSteps
 pub mod PositionsTurns

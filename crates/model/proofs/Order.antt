@@ -2,12 +2,12 @@
 -- first n entries, for every n.
 use Prim.Native.Nat.{ℕ, _≤_}
 use native.Mathlib.Nat.{le-refl, le-trans}
-use mathlib.Core.Path.{_≡_, refl, sym, ap, _∙_}
-use mathlib.Core.Bool.{Bool, true, false, cond, _||_}
+use mathlib.Core.Path.{_≡_}
+use mathlib.Core.Bool.{true}
 use lib.Dec.{eqb}
 use borrow.Author.Tests.{eqb-true, eqb-false}
 use Rattle.lists.specs.Functions.{put}
-use Rattle.lists.proofs.Functions.{on, apart, put-at, put-off}
+use Rattle.lists.proofs.Functions.{on, put-at, put-off}
 use Rattle.model.specs.Rows.{Row, Matrix, below, matrixBelow, comparable, larger}
 use Rattle.model.proofs.Rows.{below-of, matrixBelow-of}
 

@@ -11,17 +11,18 @@ use lib.Dec.{eqb}
 use borrow.Author.Tests.{eqb-true, eqb-false, ne-eqb}
 use Rattle.lists.specs.Functions.{put}
 use Rattle.lists.specs.Every.{Every, Some}
-use Rattle.lists.proofs.Functions.{on, put-at}
+use Rattle.lists.proofs.Functions.{put-at}
 use Rattle.model.specs.Records.{Value}
 use Rattle.model.specs.Runs.{Call, begin, deliver, crash, Seen}
-use Rattle.model.specs.History.{Op, Watch, begunOp, submittedOp, decidedOp, watchDeliver, watchCall, watchStep}
+use Rattle.model.specs.History.{Op, Watch, noOp, begunOp, submittedOp, submitOf, decidedOp, watchDeliver, watchCall, watchStep}
 use Rattle.model.specs.History.{watchFrom, nothingYet, watched}
-use Rattle.model.specs.Positions.{Step, step, stepAt, Placed, AllPlaced, Positions}
+use Rattle.model.specs.Positions.{Step, step, stepAt, beganBy, begunCount, Placed, AllPlaced, Positions}
 use Rattle.model.proofs.HistoryLists.{split, every}
 use Rattle.model.proofs.HistorySteps.{watch-verdict}
 use Rattle.model.proofs.Phases.{Next, submitted, answered, judged, ended as completes, Moves, StepMoves, RunMoves, verdict-high}
-use Rattle.model.proofs.PositionsInvariant.{Moved, stays, begins, submits, replies, judges, ends, moved-steps, Places, Found, runs}
-use Rattle.model.proofs.PositionsInvariant.{decided, PlacedIn, Taken}
+use Rattle.model.proofs.PositionsInvariant.{nextOp, Moved, stays, begins, submits, replies, judges, ends, moved-steps, Places}
+use Rattle.model.proofs.PositionsInvariant.{Found, runs, decided, PlacedIn, Taken}
+use Rattle.model.proofs.Ordinals.{refused-counts}
 use Rattle.model.proofs.PositionsTurns.{Turns, turns-after}
 use Rattle.model.proofs.PositionsSteps.{ended-found, placed-after, places-after, submits-after}
 
@@ -37,7 +38,7 @@ module _ (look : ℕ → Option Step) (p : ℕ → ℕ) (w : Watch) (h : Places 
   unfolding watchCall begunOp
   begin-stepped i r t v here zero idle phases = record {
     moved = rw phases (begins i r t v idle (rw here (zero, refl)));
-    placed = λ z. rw (phases, put-at p i 1, put-at (w .running) i (begunOp (w .steps + 1) i r t v))
+    placed = λ z. rw (phases, put-at p i 1, put-at (w .running) i (nextOp w i r t v))
         (runs (omega arith) (omega arith) refl);
   }
 
@@ -50,20 +51,20 @@ module _ (look : ℕ → Option Step) (p : ℕ → ℕ) (w : Watch) (h : Places 
     after to phases = ap (λ f. f i) phases ∙ put-at p i to
 
     deliver-stepped : (to : ℕ) → Next (p i) (s .returned) to → s .phases ≡ put p i to → Goal
-    unfolding watchDeliver submittedOp decidedOp
+    unfolding watchDeliver submittedOp submitOf decidedOp
     deliver-stepped to (submitted one nothing) phases =
         let q = after 2 phases in record {
           moved = rw (q, phases) (submits i one (rw here (refl, zero, q, nothing)));
           placed = λ z. rw q (
             (λ e. rw (put-at (w .running) i (submittedOp (w .steps + 1) (w .running i))) (runs (omega arith) (omega arith) refl)),
-            (λ e. inl refl),
+            (λ e. inl (refl, refl)),
             (λ e. absurd (⊎-elim (λ d. omega arith) (λ d. omega arith) e)),
             (λ e. absurd (omega arith)),
           );
         }
     deliver-stepped to (answered two) phases =
         let q = after 3 phases in record {
-          moved = rw (q, phases) (replies i two);
+          moved = rw (q, phases) (replies i (s .returned) two (rw here (refl, zero, q, refl)));
           placed = λ z. (
             (λ e. absurd (omega arith)),
             (λ e. absurd (omega arith)),
@@ -97,16 +98,19 @@ module _ (look : ℕ → Option Step) (p : ℕ → ℕ) (w : Watch) (h : Places 
 
   taken-stepped : (call : Call) → look (w .steps + 1) ≡ some (step call s) → s .answer ≡ 0 → Moves p call s
       → Stepped look p w call s (watchCall w (w .steps + 1) call s)
-  unfolding watchCall
+  unfolding watchCall beganBy
   taken-stepped (begin i r t v) here zero m = begin-stepped i r t v here zero (m .isIdle) (m .phases)
   taken-stepped (deliver i) here zero m = deliver-stepped i here zero (m .to) (m .next) (m .phases)
-  taken-stepped (crash i) here zero m = record { moved = rw m stays; placed = λ z. tt }
+  taken-stepped (crash i) here zero m = record { moved = rw m (stays (λ k. rw here refl)); placed = λ z. tt }
 
   stepped : (call : Call) → look (w .steps + 1) ≡ some (step call s) → StepMoves p call s → Stepped look p w call s (watchStep w call s)
   unfolding watchStep
   stepped call here m = split (Stepped look p w call s) (eqb (s .answer) 0)
       (λ e. let zero = eqb-true (s .answer) 0 e in taken-stepped call here zero (m .taken zero))
-      (λ e. record { moved = rw (m .refused e) stays; placed = λ z. absurd (eqb-false (s .answer) 0 e z) })
+      (λ e. record {
+        moved = rw (m .refused e) (stays (λ k. rw here (refused-counts call s e k)));
+        placed = λ z. absurd (eqb-false (s .answer) 0 e z);
+      })
 
 -- Whole runs.
 
@@ -187,7 +191,7 @@ module _ (look : ℕ → Option Step) where
 
 -- at first nothing has happened
 places-nothing : (look : ℕ → Option Step) → Places look (λ i. 0) nothingYet
-unfolding nothingYet begunOp
+unfolding nothingYet noOp begunCount
 places-nothing look = record {
   running = λ i. record {
     placed = record {
@@ -195,10 +199,12 @@ places-nothing look = record {
       began = λ h. absurd (omega arith);
       submitted = λ h. absurd (omega arith);
       inOrder = λ h. absurd (omega arith);
+      ordinal = refl;
       undecided = (refl, refl, refl, refl);
     };
     hasBegun = λ l. absurd (omega arith);
     hasSubmitted = λ l. absurd (omega arith);
+    newest = refl;
     began = omega arith;
     submitted = omega arith;
   };
@@ -224,6 +230,6 @@ positions-of calls seen m =
       running = λ i. l .places .running i .placed;
       decided = every (λ o h. h .0) (w .decided) (l .places .decided);
       inTurn = turns .kept .inTurn;
-      submits = every (λ s t. record { member = t .member; operation = found-known look (t .found) }) (w .submits) (l .kept);
+      submits = every (λ s t. found-known look t) (w .submits) (l .kept);
       complete = all-placed look (λ i. 0) nothingYet first 1 refl calls seen ahead m;
     }

@@ -2,32 +2,34 @@
 -- Assumes nothing.
 use Prim.Native.Nat.{ℕ, _+_, _≤_, _<_}
 use mathlib.Core.Path.{_≡_, refl, sym, _∙_}
-use mathlib.Core.Bool.{Bool, cond}
+use mathlib.Core.Bool.{Bool, false, cond}
 use mathlib.Core.List.{List, [], _∷_}
 use mathlib.Core.Logic.{inl, inr, ⊎-map}
 use mathlib.Core.Option.{Option, none}
 use native.Mathlib.Omega.{arith}
 use lib.Dec.{eqb}
-use borrow.Author.Tests.{eqb-true, eqb-false}
+use borrow.Author.Tests.{eqb-true, eqb-false, eq-eqb, ne-eqb}
 use Rattle.lists.specs.Functions.{put}
 use Rattle.lists.specs.Every.{Every, Some}
 use Rattle.lists.proofs.Functions.{put-at, put-all, put-both}
 use Rattle.model.specs.Records.{Value}
 use Rattle.model.specs.Runs.{Call, begin, deliver, crash, Seen}
-use Rattle.model.specs.History.{Op, Submit, Watch, begunOp, submittedOp, decidedOp, endedOp, ended}
-use Rattle.model.specs.Positions.{Step, step, IsBegin, IsDeliver, Decided}
+use Rattle.model.specs.History.{Op, Submit, Watch, begunOp, submittedOp, submitOf, decidedOp, endedOp, ended}
+use Rattle.model.specs.Positions.{Step, IsBegin, IsDeliver, beganBy, begunCount, Decided}
 use Rattle.model.proofs.HistoryLists.{split, every, every-ended}
-use Rattle.model.proofs.PositionsInvariant.{later, withRunning, Moved, stays, begins, submits, replies, judges, ends, RunningPlace}
-use Rattle.model.proofs.PositionsInvariant.{Unended, Places, Found, runs, decided, FoundIn, Stable, PlacedIn, Taken}
+use Rattle.model.proofs.Ordinals.{count-next, count-same, begin-counts, deliver-counts}
+use Rattle.model.proofs.PositionsInvariant.{withRunning, nextOp, Moved, stays, begins, submits, replies, judges, ends}
+use Rattle.model.proofs.PositionsInvariant.{RunningPlace, Unended, Places, Found, runs, decided, FoundIn, Stable, PlacedIn, Taken}
 
 -- The parts, a step later.
 
-running-later : {look : ℕ → Option Step} {i phase steps : ℕ} {o : Op} → RunningPlace look i phase steps o → (to : ℕ)
-    → (1 ≤ to → 1 ≤ phase) → (2 ≤ to → 2 ≤ phase) → RunningPlace look i to (steps + 1) o
-running-later h to one two = record {
+running-later : {look : ℕ → Option Step} {i phase steps : ℕ} {o : Op} → RunningPlace look i phase steps o
+    → beganBy i (look (steps + 1)) ≡ false → (to : ℕ) → (1 ≤ to → 1 ≤ phase) → (2 ≤ to → 2 ≤ phase) → RunningPlace look i to (steps + 1) o
+running-later {look} {i} {steps = steps} h other to one two = record {
   placed = h .placed;
   hasBegun = λ l. h .hasBegun (one l);
   hasSubmitted = λ l. h .hasSubmitted (two l);
+  newest = h .newest ∙ sym (count-same look i steps other);
   began = omega arith;
   submitted = omega arith;
 }
@@ -62,36 +64,43 @@ module _ (i at : ℕ) (v : Option Value) where
 
 -- The move keeps what is known of the positions.
 
-begun-place : (look : ℕ → Option Step) (at i r t : ℕ) (v : Value) → 0 < at → IsBegin (begunOp at i r t v .given) (look at)
-    → RunningPlace look i 1 at (begunOp at i r t v)
+begun-place : (look : ℕ → Option Step) (w : Watch) (i r t : ℕ) (v : Value) → IsBegin (nextOp w i r t v .given) (look (w .steps + 1))
+    → w .running i .ordinal ≡ begunCount look i (w .steps) → RunningPlace look i 1 (w .steps + 1) (nextOp w i r t v)
 unfolding begunOp
-begun-place look at i r t v z b = record {
+begun-place look w i r t v b count = record {
   placed = record {
     member = λ h. refl;
     began = λ h. b;
+    ordinal = counted;
     submitted = λ h. absurd (omega arith);
     inOrder = λ h. absurd (omega arith);
     undecided = (refl, refl, refl, refl);
   };
-  hasBegun = λ l. z;
+  hasBegun = λ l. omega arith;
   hasSubmitted = λ l. absurd (omega arith);
+  newest = counted;
   began = omega arith;
   submitted = omega arith;
 }
+  where
+    counted : w .running i .ordinal + 1 ≡ begunCount look i (w .steps + 1)
+    counted = rw (count-next look i (w .steps), begin-counts (nextOp w i r t v .given) (look (w .steps + 1)) b i, eq-eqb i i refl, count)
 
 submitted-place : {look : ℕ → Option Step} {i phase steps : ℕ} {o : Op} → RunningPlace look i phase steps o → phase ≡ 1
     → IsDeliver i 2 none (look (steps + 1)) → RunningPlace look i 2 (steps + 1) (submittedOp (steps + 1) o)
 unfolding submittedOp
-submitted-place {steps = steps} h one d = record {
+submitted-place {look} {i} {steps = steps} h one d = record {
   placed = record {
     member = h .placed .member;
     began = h .placed .began;
+    ordinal = h .placed .ordinal;
     submitted = λ z. d;
     inOrder = λ z. omega (arith, h .began);
     undecided = (refl, refl, refl, refl);
   };
   hasBegun = λ l. h .hasBegun (omega arith);
   hasSubmitted = λ l. omega arith;
+  newest = h .newest ∙ sym (count-same look i steps (deliver-counts i 2 none (look (steps + 1)) d i));
   began = omega (arith, h .began);
   submitted = omega arith;
 }
@@ -105,6 +114,7 @@ judged-place {look} {steps = steps} {o = o} h three a d =
     let sent : 0 < o .submitAt = h .hasSubmitted (omega arith) in
     let m = h .placed .member begun in record {
       began = h .placed .began begun;
+      ordinal = rw m (h .placed .ordinal);
       submitted = rw m (h .placed .submitted sent);
       judged = rw m d;
       ended = λ z. absurd (omega arith);
@@ -120,6 +130,7 @@ unfolding endedOp
 ended-place look i steps v d o m h = (
   record {
     began = h .0 .began;
+    ordinal = h .0 .ordinal;
     submitted = h .0 .submitted;
     judged = h .0 .judged;
     ended = λ z. rw m d;
@@ -131,8 +142,18 @@ ended-place look i steps v d o m h = (
 )
 
 module _ (look : ℕ → Option Step) (p : ℕ → ℕ) (w : Watch) (h : Places look p w) where
-  others : (i : ℕ) (k : ℕ) → (k ≡ i → ⊥) → RunningPlace look k (p k) (w .steps + 1) (w .running k)
-  others i k d = running-later (h .running k) (p k) (λ l. l) (λ l. l)
+  later-at : (k : ℕ) → beganBy k (look (w .steps + 1)) ≡ false → RunningPlace look k (p k) (w .steps + 1) (w .running k)
+  later-at k other = running-later (h .running k) other (p k) (λ l. l) (λ l. l)
+
+  -- the members that do not begin at the step: all but one, or all
+  beside-begin : (i r t : ℕ) (v : Value) → IsBegin (nextOp w i r t v .given) (look (w .steps + 1)) → (k : ℕ) → (k ≡ i → ⊥)
+      → RunningPlace look k (p k) (w .steps + 1) (w .running k)
+  unfolding begunOp
+  beside-begin i r t v b k d = later-at k (begin-counts (nextOp w i r t v .given) (look (w .steps + 1)) b k ∙ ne-eqb i k (λ e. d (sym e)))
+
+  beside : {i : ℕ} → ((k : ℕ) → beganBy k (look (w .steps + 1)) ≡ false) → (k : ℕ) → (k ≡ i → ⊥)
+      → RunningPlace look k (p k) (w .steps + 1) (w .running k)
+  beside other k d = later-at k (other k)
 
   -- member i's newest decided operation, in another phase than 4 and 5
   waiting-off : (i to : ℕ) (ops : List Op) → (4 ≤ to → Unended i ops) → ((k : ℕ) → (k ≡ i → ⊥) → 4 ≤ p k → Unended k ops)
@@ -149,44 +170,50 @@ module _ (look : ℕ → Option Step) (p : ℕ → ℕ) (w : Watch) (h : Places 
 
 pub places-after : {look : ℕ → Option Step} {p q : ℕ → ℕ} {w x : Watch} → Moved look p w q x → Places look p w → Places look q x
 unfolding decidedOp endedOp
-places-after {look} {p} {w = w} stays h = record {
-  running = λ k. running-later (h .running k) (p k) (λ l. l) (λ l. l);
+places-after {look} {p} {w = w} (stays q) h = record {
+  running = λ k. later-at look p w h k (q k);
   decided = decided-later look (w .steps) (w .decided) (h .decided);
   waiting = h .waiting;
 }
 places-after {look} {p} {w = w} (begins i r t v z b) h = record {
-  running = put-both (λ k x. RunningPlace look k x (w .steps + 1)) p (w .running) i 1 (begunOp (w .steps + 1) i r t v)
-      (begun-place look (w .steps + 1) i r t v (omega arith) b) (others look p w h i);
+  running = put-both (λ k x. RunningPlace look k x (w .steps + 1)) p (w .running) i 1 (nextOp w i r t v)
+      (begun-place look w i r t v b (h .running i .newest)) (beside-begin look p w h i r t v b);
   decided = decided-later look (w .steps) (w .decided) (h .decided);
   waiting = waiting-off look p w h i 1 (w .decided) (λ l. absurd (omega arith)) (λ k d. h .waiting k);
 }
 places-after {look} {p} {w = w} (submits i e d) h = record {
   running = put-both (λ k x. RunningPlace look k x (w .steps + 1)) p (w .running) i 2 (submittedOp (w .steps + 1) (w .running i))
-      (submitted-place (h .running i) e d) (others look p w h i);
+      (submitted-place (h .running i) e d) (beside look p w h (deliver-counts i 2 none (look (w .steps + 1)) d));
   decided = decided-later look (w .steps) (w .decided) (h .decided);
   waiting = waiting-off look p w h i 2 (w .decided) (λ l. absurd (omega arith)) (λ k d. h .waiting k);
 }
-places-after {look} {p} {w = w} (replies i e) h = record {
-  running = put-all (λ k x. RunningPlace look k x (w .steps + 1) (w .running k)) p i 3
-      (running-later (h .running i) 3 (λ l. omega arith) (λ l. omega arith)) (others look p w h i);
-  decided = decided-later look (w .steps) (w .decided) (h .decided);
-  waiting = waiting-off look p w h i 3 (w .decided) (λ l. absurd (omega arith)) (λ k d. h .waiting k);
-}
-places-after {look} {p} {w = w} (judges i a e d) h = record {
-  running = put-all (λ k x. RunningPlace look k x (w .steps + 1) (w .running k)) p i (cond a 4 5)
-      (running-later (h .running i) (cond a 4 5) (λ l. omega arith) (λ l. omega arith)) (others look p w h i);
-  decided = ((judged-place (h .running i) e a d, omega arith), decided-later look (w .steps) (w .decided) (h .decided));
-  waiting = waiting-judged look p w h i a (h .running i .placed .member (h .running i .hasBegun (omega arith)));
-}
-places-after {look} {p} {w = w} (ends i v four d) h = record {
-  running = put-all (λ k x. RunningPlace look k x (w .steps + 1) (w .running k)) p i 0
-      (running-later (h .running i) 0 (λ l. absurd (omega arith)) (λ l. absurd (omega arith))) (others look p w h i);
-  decided = every-ended i (w .steps + 1) v (λ o. Decided look o × (o .verdictAt ≤ w .steps))
-      (λ o. Decided look o × (o .verdictAt ≤ w .steps + 1)) (ended-place look i (w .steps) v d)
-      (λ o x. (x .0, omega (arith, x .1))) (w .decided) (h .decided);
-  waiting = waiting-off look p w h i 0 (ended i (w .steps + 1) v (w .decided)) (λ l. absurd (omega arith))
-      (λ k d l. unended-other i (w .steps + 1) v k d (w .decided) (h .waiting k l));
-}
+places-after {look} {p} {w = w} (replies i u e d) h =
+    let other = deliver-counts i 3 u (look (w .steps + 1)) d in record {
+      running = put-all (λ k x. RunningPlace look k x (w .steps + 1) (w .running k)) p i 3
+          (running-later (h .running i) (other i) 3 (λ l. omega arith) (λ l. omega arith))
+          (beside look p w h other);
+      decided = decided-later look (w .steps) (w .decided) (h .decided);
+      waiting = waiting-off look p w h i 3 (w .decided) (λ l. absurd (omega arith)) (λ k d. h .waiting k);
+    }
+places-after {look} {p} {w = w} (judges i a e d) h =
+    let other = deliver-counts i (cond a 4 5) none (look (w .steps + 1)) d in record {
+      running = put-all (λ k x. RunningPlace look k x (w .steps + 1) (w .running k)) p i (cond a 4 5)
+          (running-later (h .running i) (other i) (cond a 4 5) (λ l. omega arith) (λ l. omega arith))
+          (beside look p w h other);
+      decided = ((judged-place (h .running i) e a d, omega arith), decided-later look (w .steps) (w .decided) (h .decided));
+      waiting = waiting-judged look p w h i a (h .running i .placed .member (h .running i .hasBegun (omega arith)));
+    }
+places-after {look} {p} {w = w} (ends i v four d) h =
+    let other = deliver-counts i 0 v (look (w .steps + 1)) d in record {
+      running = put-all (λ k x. RunningPlace look k x (w .steps + 1) (w .running k)) p i 0
+          (running-later (h .running i) (other i) 0 (λ l. absurd (omega arith)) (λ l. absurd (omega arith)))
+          (beside look p w h other);
+      decided = every-ended i (w .steps + 1) v (λ o. Decided look o × (o .verdictAt ≤ w .steps))
+          (λ o. Decided look o × (o .verdictAt ≤ w .steps + 1)) (ended-place look i (w .steps) v d)
+          (λ o x. (x .0, omega (arith, x .1))) (w .decided) (h .decided);
+      waiting = waiting-off look p w h i 0 (ended i (w .steps + 1) v (w .decided)) (λ l. absurd (omega arith))
+          (λ k d l. unended-other i (w .steps + 1) v k d (w .decided) (h .waiting k l));
+    }
 
 -- The move keeps every operation that was found.
 
@@ -202,10 +229,10 @@ module _ {low : ℕ} {P : Op → Type 0} {i phase : ℕ} {o : Op} {ops : List Op
 pub found-after : {low : ℕ} {P : Op → Type 0} → Stable low P → {look : ℕ → Option Step} {p q : ℕ → ℕ} {w x : Watch} → Moved look p w q x
     → Places look p w → (k : ℕ) → FoundIn low P p w k → FoundIn low P q x k
 unfolding decidedOp endedOp
-found-after st stays h = λ k f. f
+found-after st (stays q) h = λ k f. f
 found-after {low} {P} st {p = p} {w = w} (begins i r t v z b) h =
-    put-both (λ k ph o. FoundIn low P p w k → Found low P k ph o (w .decided)) p (w .running) i 1 (begunOp (w .steps + 1) i r t v)
-    (found-on 1 (begunOp (w .steps + 1) i r t v) (w .decided) (λ l m y. absurd (omega (arith, st .starts))) (λ s. s))
+    put-both (λ k ph o. FoundIn low P p w k → Found low P k ph o (w .decided)) p (w .running) i 1 (nextOp w i r t v)
+    (found-on 1 (nextOp w i r t v) (w .decided) (λ l m y. absurd (omega (arith, st .starts))) (λ s. s))
     (λ k d f. f)
 found-after {low} {P} st {p = p} {w = w} (submits i e d) h =
     let o = submittedOp (w .steps + 1) (w .running i) in
@@ -213,7 +240,7 @@ found-after {low} {P} st {p = p} {w = w} (submits i e d) h =
     (found-on 2 o (w .decided)
     (λ l m y. runs (omega arith) (omega arith) (st .submitted (w .steps + 1) (w .running i) (omega arith) y)) (λ s. s))
     (λ k d f. f)
-found-after {low} {P} st {p = p} {w = w} (replies i e) h =
+found-after {low} {P} st {p = p} {w = w} (replies i u e d) h =
     put-all (λ k ph. FoundIn low P p w k → Found low P k ph (w .running k) (w .decided)) p i 3
     (found-on 3 (w .running i) (w .decided) (λ l m y. runs (omega arith) (omega arith) y) (λ s. s))
     (λ k d f. f)
@@ -286,10 +313,10 @@ end-stable k p = record {
 
 more-submits : (P : Submit → Type 0) {look : ℕ → Option Step} {p q : ℕ → ℕ} {w x : Watch} → Moved look p w q x
     → Some P (w .submits) → Some P (x .submits)
-more-submits P stays s = s
+more-submits P (stays q) s = s
 more-submits P (begins i r t v z b) s = s
 more-submits P (submits i e d) s = inr s
-more-submits P (replies i e) s = s
+more-submits P (replies i u e d) s = s
 more-submits P (judges i a e d) s = s
 more-submits P (ends i v four d) s = s
 
@@ -298,7 +325,7 @@ pub placed-after : (k : ℕ) → 0 < k → (call : Call) (s : Seen) {look : ℕ 
 placed-after k z (begin i r t v) s m h f = found-after (begin-stable k) m h i f
 placed-after k z (deliver i) s m h f = (
   (λ e. found-after (submit-stable k) m h i (f .0 e)),
-  (λ e. more-submits (λ u. u .at ≡ k) m (f .1 e)),
+  (λ e. more-submits (λ u. (u .member ≡ i) × (u .at ≡ k)) m (f .1 e)),
   (λ e. found-after (verdict-stable k) m h i (f .2 e)),
   (λ e. found-after (end-stable k z) m h i (f .3 e)),
 )
@@ -308,7 +335,7 @@ placed-after k z (crash i) s m h f = tt
 
 module _ {look : ℕ → Option Step} {p q : ℕ → ℕ} {w x : Watch} (m : Moved look p w q x) (h : Places look p w) where
   taken-after : (s : Submit) → Taken p w s → Taken q x s
-  taken-after s t = record { member = t .member; found = found-after (slot-stable (s .at) (s .slot)) m h (t .member) (t .found) }
+  taken-after s t = found-after (slot-stable (s .at) (s .slot)) m h (s .member) t
 
   all-after : (s : List Submit) → Every (Taken p w) s → Every (Taken q x) s
   all-after = every taken-after
@@ -316,19 +343,17 @@ module _ {look : ℕ → Option Step} {p q : ℕ → ℕ} {w x : Watch} (m : Mov
 -- a submit just taken
 now-taken : (p : ℕ → ℕ) (w : Watch) (i : ℕ) (s : List Submit) → Taken (put p i 2)
     (withRunning w i (submittedOp (w .steps + 1) (w .running i)) s)
-    (record { at = w .steps + 1; slot = w .running i .given .slot })
-unfolding submittedOp
-now-taken p w i s = record {
-  member = i;
-  found = rw (put-at p i 2, put-at (w .running) i (submittedOp (w .steps + 1) (w .running i)))
-      (runs (omega arith) (omega arith) (refl, refl));
-}
+    (submitOf (w .steps + 1) i (w .running i))
+unfolding submittedOp submitOf
+now-taken p w i s = rw (put-at p i 2, put-at (w .running) i (submittedOp (w .steps + 1) (w .running i)))
+    (runs (omega arith) (omega arith) (refl, refl))
 
 pub submits-after : {look : ℕ → Option Step} {p q : ℕ → ℕ} {w x : Watch} → Moved look p w q x → Places look p w
     → Every (Taken p w) (w .submits) → Every (Taken q x) (x .submits)
-submits-after {w = w} stays h s = all-after stays h (w .submits) s
+submits-after {w = w} (stays q) h s = all-after (stays q) h (w .submits) s
 submits-after {w = w} (begins i r t v z b) h s = all-after (begins i r t v z b) h (w .submits) s
-submits-after {p = p} {w = w} (submits i e d) h s = (now-taken p w i _, all-after (submits i e d) h (w .submits) s)
-submits-after {w = w} (replies i e) h s = all-after (replies i e) h (w .submits) s
+submits-after {p = p} {w = w} (submits i e d) h s =
+    (now-taken p w i (submitOf (w .steps + 1) i (w .running i) ∷ w .submits), all-after (submits i e d) h (w .submits) s)
+submits-after {w = w} (replies i u e d) h s = all-after (replies i u e d) h (w .submits) s
 submits-after {w = w} (judges i a e d) h s = all-after (judges i a e d) h (w .submits) s
 submits-after {w = w} (ends i v four d) h s = all-after (ends i v four d) h (w .submits) s

@@ -8,15 +8,14 @@ use mathlib.Core.Option.{Option}
 use native.Mathlib.Omega.{arith}
 use lib.Dec.{eqb}
 use borrow.Author.Tests.{eqb-true, eqb-false}
-use Rattle.lists.specs.Functions.{put}
 use Rattle.lists.specs.Every.{Every}
 use Rattle.lists.proofs.Functions.{put-all, put-both}
 use Rattle.model.specs.Records.{Value}
 use Rattle.model.specs.History.{Op, Watch, begunOp, submittedOp, decidedOp, endedOp, ended}
-use Rattle.model.specs.Positions.{Step, Decided, After, InTurn}
+use Rattle.model.specs.Positions.{Step, After, InTurn}
 use Rattle.model.proofs.HistoryLists.{split, every, every-ended}
 use Rattle.model.proofs.Phases.{verdict-high}
-use Rattle.model.proofs.PositionsInvariant.{Moved, stays, begins, submits, replies, judges, ends, Places}
+use Rattle.model.proofs.PositionsInvariant.{Moved, stays, begins, submits, replies, judges, ends, Places, nextOp}
 
 -- an operation of member i has ended, before a step
 abbrev pub Gone : ℕ → ℕ → Op → Type 0
@@ -70,7 +69,7 @@ gone-later i before = every (λ o g m. (g m .0, omega (arith, g m .1)))
 
 pub turns-after : {look : ℕ → Option Step} {p q : ℕ → ℕ} {w x : Watch} → Moved look p w q x → Places look p w → Turns p w → Turns q x
 unfolding begunOp submittedOp decidedOp
-turns-after {w = w} stays h t = record {
+turns-after {w = w} (stays q) h t = record {
   inTurn = t .inTurn;
   running = t .running;
   resting = λ k e. gone-later k (w .steps + 1) (w .decided) (t .resting k e);
@@ -78,7 +77,7 @@ turns-after {w = w} stays h t = record {
 turns-after {p = p} {w = w} (begins i r u v z b) h t = record {
   inTurn = t .inTurn;
   running = put-both (λ k ph o. 1 ≤ ph → ph ≤ 3 → Every (Gone k (o .beginAt)) (w .decided)) p (w .running) i 1
-      (begunOp (w .steps + 1) i r u v) (λ l n. t .resting i z) (λ k d. t .running k);
+      (nextOp w i r u v) (λ l n. t .resting i z) (λ k d. t .running k);
   resting = put-all (λ k ph. ph ≡ 0 → Every (Gone k (w .steps + 1 + 1)) (w .decided)) p i 1
       (λ e. absurd (omega arith)) (λ k d e. gone-later k (w .steps + 1) (w .decided) (t .resting k e));
 }
@@ -89,7 +88,7 @@ turns-after {p = p} {w = w} (submits i one d) h t = record {
   resting = put-all (λ k ph. ph ≡ 0 → Every (Gone k (w .steps + 1 + 1)) (w .decided)) p i 2
       (λ e. absurd (omega arith)) (λ k d e. gone-later k (w .steps + 1) (w .decided) (t .resting k e));
 }
-turns-after {p = p} {w = w} (replies i two) h t = record {
+turns-after {p = p} {w = w} (replies i u two d) h t = record {
   inTurn = t .inTurn;
   running = put-all (λ k ph. 1 ≤ ph → ph ≤ 3 → Every (Gone k (w .running k .beginAt)) (w .decided)) p i 3
       (λ l n. t .running i (omega arith) (omega arith)) (λ k d. t .running k);

@@ -10,10 +10,11 @@ use Rattle.model.specs.Records.{Value, read, write, zeroValue}
 use Rattle.model.specs.Runs.{Call, begin, deliver, crash, Seen}
 use Rattle.model.specs.Reference.{Operation}
 
--- an operation: what begin gave (for a read the value is zero), when it began, when the host took its submit and its commit, the
--- verdict, when it completed, and what it returned
+-- an operation: what begin gave (for a read the value is zero), which one it is among those that its member has begun, from 1, when it
+-- began, when the host took its submit and its commit, the verdict, when it completed, and what it returned
 pub record Op : Type 0 where
   pub given : Operation
+  pub ordinal : ℕ
   pub beginAt : ℕ
   pub submitAt : ℕ
   pub verdictAt : ℕ
@@ -21,22 +22,38 @@ pub record Op : Type 0 where
   pub endAt : ℕ
   pub returned : Option Value
 
--- a submit that the host took
+-- a submit that the host took, and whose it was
 pub record Submit : Type 0 where
   pub at : ℕ
+  pub member : ℕ
   pub slot : ℕ
 
--- the steps so far, each member's operation that has not reached its verdict, the submits taken and the operations that have reached
--- their verdict, both newest first: so the accepted ones stand in the order of acceptance
+-- the steps so far, the operation that each member began last, as it was before its verdict, the submits taken and the operations that
+-- have reached their verdict, both newest first: so the accepted ones stand in the order of acceptance
 pub record Watch : Type 0 where
   pub steps : ℕ
   pub running : ℕ → Op
   pub submits : List Submit
   pub decided : List Op
 
-unfoldable pub begunOp : ℕ → ℕ → ℕ → ℕ → Value → Op
-begunOp at i r t v = record {
+-- that of a member which has begun none
+unfoldable pub noOp : Op
+noOp = record {
+  given = record { member = 0; slot = 0; operation = 0; value = zeroValue };
+  ordinal = 0;
+  beginAt = 0;
+  submitAt = 0;
+  verdictAt = 0;
+  accepted = false;
+  endAt = 0;
+  returned = none;
+}
+
+-- its next, `before` being the one that it began last
+unfoldable pub begunOp : ℕ → ℕ → ℕ → ℕ → Value → Op → Op
+begunOp at i r t v before = record {
   given = record { member = i; slot = r; operation = t; value = cond (eqb t write) v zeroValue };
+  ordinal = before .ordinal + 1;
   beginAt = at;
   submitAt = 0;
   verdictAt = 0;
@@ -48,6 +65,7 @@ begunOp at i r t v = record {
 unfoldable pub submittedOp : ℕ → Op → Op
 submittedOp at o = record {
   given = o .given;
+  ordinal = o .ordinal;
   beginAt = o .beginAt;
   submitAt = at;
   verdictAt = 0;
@@ -56,9 +74,13 @@ submittedOp at o = record {
   returned = none;
 }
 
+unfoldable pub submitOf : ℕ → ℕ → Op → Submit
+submitOf at i o = record { at = at; member = i; slot = o .given .slot }
+
 unfoldable pub decidedOp : ℕ → Bool → Op → Op
 decidedOp at accepted o = record {
   given = o .given;
+  ordinal = o .ordinal;
   beginAt = o .beginAt;
   submitAt = o .submitAt;
   verdictAt = at;
@@ -70,6 +92,7 @@ decidedOp at accepted o = record {
 unfoldable pub endedOp : ℕ → Option Value → Op → Op
 endedOp at returned o = record {
   given = o .given;
+  ordinal = o .ordinal;
   beginAt = o .beginAt;
   submitAt = o .submitAt;
   verdictAt = o .verdictAt;
@@ -92,7 +115,7 @@ watchDeliver w at i s =
     cond (eqb phase 2) (record {
       steps = at;
       running = put (w .running) i (submittedOp at o);
-      submits = record { at = at; slot = o .given .slot } ∷ w .submits;
+      submits = submitOf at i o ∷ w .submits;
       decided = w .decided;
     })
     (cond (eqb phase 4 || eqb phase 5) (record {
@@ -111,7 +134,8 @@ watchDeliver w at i s =
 
 unfoldable pub watchCall : Watch → ℕ → Call → Seen → Watch
 watchCall w at (begin i r t v) s =
-    record { steps = at; running = put (w .running) i (begunOp at i r t v); submits = w .submits; decided = w .decided }
+    let o = begunOp at i r t v (w .running i) in
+    record { steps = at; running = put (w .running) i o; submits = w .submits; decided = w .decided }
 watchCall w at (deliver i) s = watchDeliver w at i s
 watchCall w at (crash i) s = record { steps = at; running = w .running; submits = w .submits; decided = w .decided }
 
@@ -128,7 +152,7 @@ watchFrom w (call ∷ calls) [] = w
 watchFrom w (call ∷ calls) (s ∷ seen) = watchFrom (watchStep w call s) calls seen
 
 unfoldable pub nothingYet : Watch
-nothingYet = record { steps = 0; running = λ i. begunOp 0 0 0 0 zeroValue; submits = []; decided = [] }
+nothingYet = record { steps = 0; running = λ i. noOp; submits = []; decided = [] }
 
 unfoldable pub watched : List Call → List Seen → Watch
 watched calls seen = watchFrom nothingYet calls seen

@@ -1,8 +1,8 @@
 -- What the watcher's positions are: the steps at which the things happened, and no such step is left out. So the history's claims are
 -- about what was done and seen, whatever the watcher's own definitions are. A step's number is its place in the list, from 1.
-use Prim.Native.Nat.{ℕ, _+_, _-_, _<_}
+use Prim.Native.Nat.{ℕ, zero, suc, _+_, _-_, _<_}
 use mathlib.Core.Path.{_≡_}
-use mathlib.Core.Bool.{Bool, false, cond}
+use mathlib.Core.Bool.{Bool, false, cond, _&&_}
 use mathlib.Core.List.{List, [], _∷_}
 use mathlib.Core.Logic.{_⊎_}
 use mathlib.Core.Option.{Option, none, some}
@@ -40,12 +40,25 @@ IsDeliver i p v (some (step (begin j r t w) s)) = ⊥
 IsDeliver i p v (some (step (deliver j) s)) = (j ≡ i) × (s .answer ≡ 0) × (s .phases i ≡ p) × (s .returned ≡ v)
 IsDeliver i p v (some (step (crash j) s)) = ⊥
 
+-- is it a begin by member i, answered 0
+unfoldable pub beganBy : ℕ → Option Step → Bool
+beganBy i none = false
+beganBy i (some (step (begin j r t v) s)) = eqb j i && eqb (s .answer) 0
+beganBy i (some (step (deliver j) s)) = false
+beganBy i (some (step (crash j) s)) = false
+
+-- how many of the steps 1 to k are
+unfoldable pub begunCount : (ℕ → Option Step) → ℕ → ℕ → ℕ
+begunCount at i zero = 0
+begunCount at i (suc k) = begunCount at i k + cond (beganBy i (at (suc k))) 1 0
+
 -- The operations of a watch, given the step of each number.
 
 -- one that has not reached its verdict, of member i
 pub record Begun (at : ℕ → Option Step) (i : ℕ) (o : Op) : Type 0 where
   pub member : 0 < o .beginAt → o .given .member ≡ i
   pub began : 0 < o .beginAt → IsBegin (o .given) (at (o .beginAt))
+  pub ordinal : o .ordinal ≡ begunCount at i (o .beginAt)
   pub submitted : 0 < o .submitAt → IsDeliver i 2 none (at (o .submitAt))
   pub inOrder : 0 < o .submitAt → o .beginAt < o .submitAt
   pub undecided : (o .verdictAt ≡ 0) × (o .accepted ≡ false) × (o .endAt ≡ 0) × (o .returned ≡ none)
@@ -53,6 +66,7 @@ pub record Begun (at : ℕ → Option Step) (i : ℕ) (o : Op) : Type 0 where
 -- one that has reached its verdict: phase 4 after its commit was taken if it was accepted, else 5
 pub record Decided (at : ℕ → Option Step) (o : Op) : Type 0 where
   pub began : IsBegin (o .given) (at (o .beginAt))
+  pub ordinal : o .ordinal ≡ begunCount at (o .given .member) (o .beginAt)
   pub submitted : IsDeliver (o .given .member) 2 none (at (o .submitAt))
   pub judged : IsDeliver (o .given .member) (cond (o .accepted) 4 5) none (at (o .verdictAt))
   pub ended : 0 < o .endAt → IsDeliver (o .given .member) 0 (o .returned) (at (o .endAt))
@@ -74,10 +88,9 @@ InTurn (o ∷ older) = Every (After o) older × InTurn older
 abbrev pub Known : Watch → ℕ → (Op → Type 0) → Type 0
 Known w i P = P (w .running i) ⊎ Some (λ o. (o .given .member ≡ i) × P o) (w .decided)
 
--- a submit is that of an operation, on its slot
-pub record Submitted (w : Watch) (s : Submit) : Type 0 where
-  pub member : ℕ
-  pub operation : Known w member (λ o. (o .submitAt ≡ s .at) × (o .given .slot ≡ s .slot))
+-- a submit is that of an operation of its member, on its slot
+abbrev pub Submitted : Watch → Submit → Type 0
+Submitted w s = Known w (s .member) (λ o. (o .submitAt ≡ s .at) × (o .given .slot ≡ s .slot))
 
 -- The step `at`, answered 0, has its place in the watch.
 
@@ -85,7 +98,7 @@ abbrev pub Placed : Watch → ℕ → Call → Seen → Type 0
 Placed w at (begin i r t v) s = Known w i (λ o. o .beginAt ≡ at)
 Placed w at (deliver i) s =
     (s .phases i ≡ 2 → Known w i (λ o. o .submitAt ≡ at))
-    × (s .phases i ≡ 2 → Some (λ u. u .at ≡ at) (w .submits))
+    × (s .phases i ≡ 2 → Some (λ u. (u .member ≡ i) × (u .at ≡ at)) (w .submits))
     × (s .phases i ≡ 4 ⊎ s .phases i ≡ 5 → Some (λ o. (o .given .member ≡ i) × (o .verdictAt ≡ at)) (w .decided))
     × (s .phases i ≡ 0 → Some (λ o. (o .given .member ≡ i) × (o .endAt ≡ at)) (w .decided))
 Placed w at (crash i) s = Unit {0}

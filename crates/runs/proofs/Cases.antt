@@ -23,8 +23,8 @@ use Rattle.model.specs.Board.{openingEntry, opened, withMember, boardBegun, sub
 use Rattle.model.specs.Board.{outcomeTaken, boardDelivered, boardReturned, boardCrashed}
 use Rattle.model.specs.Runs.{answerOf, done, doneReturns, after, seenAt, run}
 use Rattle.lists.specs.Every.{Every}
-use Rattle.model.specs.History.{nothingYet, begunOp, submittedOp, decidedOp, endedOp, ended, watchDeliver, watchCall, watchStep}
-use Rattle.model.specs.History.{watchFrom, watched}
+use Rattle.model.specs.History.{nothingYet, noOp, begunOp, submittedOp, submitOf, decidedOp, endedOp, ended, watchDeliver, watchCall}
+use Rattle.model.specs.History.{watchStep, watchFrom, watched}
 use Rattle.model.specs.RecordWords.{recordSize, matrixWord, recordWords}
 use Rattle.model.specs.Table.{acceptedAt, lastAt, pendingAt, knownAt, firstAt, secondAt, blockSize, newestAt, entrySize, hostSize}
 use Rattle.model.specs.Table.{hostAt, tableSize, memberWords, entryWords, hostWords, tableWords}
@@ -41,8 +41,8 @@ unfolding put from within inside each tabulate zeroRow zeroMatrix below matrixBe
     check25 check26 check27 haltNumber joined ownRecord passed failed replied judged completed tookOver dropped outcome returnedBy
     crashedOf submitted wins entryAfter storedAfter openingEntry opened withMember boardBegun submitTaken replyTaken sentRecord
     commitTaken outcomeTaken boardDelivered boardReturned boardCrashed answerOf done doneReturns after seenAt run left caller
-    lastWord line printed rowsOf recordLine recordLines begunLine decidedLine submitLine nothingYet begunOp submittedOp decidedOp
-    endedOp ended watchDeliver watchCall watchStep watchFrom watched unless failingOf takingOf changed opensOf answerTo openNumber
+    lastWord line printed rowsOf recordLine recordLines begunLine decidedLine submitLine nothingYet noOp begunOp submittedOp submitOf
+    decidedOp endedOp ended watchDeliver watchCall watchStep watchFrom watched unless failingOf takingOf changed opensOf answerTo openNumber
     openWords tableWords memberWords entryWords hostWords laid tableSize hostAt hostSize blockSize entrySize newestAt secondAt
     firstAt knownAt pendingAt lastAt acceptedAt recordSize matrixWord recordWords kindOf numberBytes byteIn headed recordByte
     recordLength recordBytes fieldBytes framed encode found every alike holds

@@ -63,10 +63,11 @@ pub data Question : Type 0 where
   -- checks that fail, and the phase and halt number that the member then has
   failing : ℕ → ℕ → Question
   taking : ℕ → ℕ → Question
-  -- of the run: the operations that reached their verdict, the newest first: member, slot, type, the last word of the value given, the
-  -- steps of begin, submit and verdict, 1 if accepted, the step of the end, and the last word of a value that was returned
+  -- of the run: the operations that reached their verdict, the newest first: member, which of its operations, slot, type, the last word
+  -- of the value given, the steps of begin, submit and verdict, 1 if accepted, the step of the end, and the last word of a value that was
+  -- returned
   decided : Question
-  -- the newest operation that a member began, up to the step of its submit; and the submits taken, the newest first: step and slot
+  -- the newest operation that a member began, up to the step of its submit; and the submits taken, the newest first: step, member and slot
   running : ℕ → Question
   submits : Question
   -- how many bytes a commit of a slot's newest record is, and a reply with the slot's two records: whole messages
@@ -121,13 +122,13 @@ recordLines n r = recordLine r ∷ rowsOf n n (r .matrix)
 -- an operation as a watcher has it, before its verdict and after it
 unfoldable pub begunLine : Op → List ℕ
 begunLine o =
-    o .given .member ∷ o .given .slot ∷ o .given .operation ∷ o .given .value 8 ∷ o .beginAt ∷ o .submitAt ∷ []
+    o .given .member ∷ o .ordinal ∷ o .given .slot ∷ o .given .operation ∷ o .given .value 8 ∷ o .beginAt ∷ o .submitAt ∷ []
 
 unfoldable pub decidedLine : Op → List ℕ
 decidedLine o = begunLine o ++ (o .verdictAt ∷ cond (o .accepted) 1 0 ∷ o .endAt ∷ lastWord (o .returned))
 
 unfoldable pub submitLine : Submit → List ℕ
-submitLine s = s .at ∷ s .slot ∷ []
+submitLine s = s .at ∷ s .member ∷ s .slot ∷ []
 
 -- one number more, where a check fails
 unfoldable pub unless : Bool → ℕ → List ℕ → List ℕ

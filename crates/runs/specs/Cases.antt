@@ -52,8 +52,8 @@ example = record {
   claims =
       output is (pair 0 1 ∷ pair 0 2 ∷ pair 0 3 ∷ pair 0 4 ∷ pair 0 0
       ∷ pair 0 1 ∷ pair 0 2 ∷ pair 0 3 ∷ pair 0 4 ∷ triple 0 0 77 ∷ [])
-      ∷ decided is ((2 ∷ 1 ∷ read ∷ 0 ∷ 6 ∷ 7 ∷ 9 ∷ 1 ∷ 10 ∷ 77 ∷ []) ∷ (1 ∷ 1 ∷ write ∷ 77 ∷ 1 ∷ 2 ∷ 4 ∷ 1 ∷ 5 ∷ []) ∷ [])
-      ∷ submits is (pair 7 1 ∷ pair 2 1 ∷ [])
+      ∷ decided is ((2 ∷ 1 ∷ 1 ∷ read ∷ 0 ∷ 6 ∷ 7 ∷ 9 ∷ 1 ∷ 10 ∷ 77 ∷ []) ∷ (1 ∷ 1 ∷ 1 ∷ write ∷ 77 ∷ 1 ∷ 2 ∷ 4 ∷ 1 ∷ 5 ∷ []) ∷ [])
+      ∷ submits is (triple 7 2 1 ∷ triple 2 1 1 ∷ [])
       ∷ [];
 }
 
@@ -133,9 +133,9 @@ p6 = record {
   start = opened 3;
   calls = contended ++ (deliver 1 ∷ deliver 2 ∷ []);
   claims = contendedClaims ++ (
-      decided is ((2 ∷ 3 ∷ read ∷ 0 ∷ 2 ∷ 4 ∷ 8 ∷ 1 ∷ 0 ∷ []) ∷ (1 ∷ 3 ∷ read ∷ 0 ∷ 1 ∷ 3 ∷ 7 ∷ 0 ∷ 0 ∷ []) ∷ [])
-      ∷ submits is (pair 4 3 ∷ pair 3 3 ∷ [])
-      ∷ running 3 is ((0 ∷ 0 ∷ 0 ∷ 0 ∷ 0 ∷ 0 ∷ []) ∷ [])
+      decided is ((2 ∷ 1 ∷ 3 ∷ read ∷ 0 ∷ 2 ∷ 4 ∷ 8 ∷ 1 ∷ 0 ∷ []) ∷ (1 ∷ 1 ∷ 3 ∷ read ∷ 0 ∷ 1 ∷ 3 ∷ 7 ∷ 0 ∷ 0 ∷ []) ∷ [])
+      ∷ submits is (triple 4 2 3 ∷ triple 3 1 3 ∷ [])
+      ∷ running 3 is ((0 ∷ 0 ∷ 0 ∷ 0 ∷ 0 ∷ 0 ∷ 0 ∷ []) ∷ [])
       ∷ []
       );
 }
@@ -143,10 +143,10 @@ p6 = record {
 -- the four operations of P7, the newest first: 1's read, 2's write, 2's read, 1's aborted read
 abbrev pub operations : List (List ℕ)
 operations =
-    (1 ∷ 2 ∷ read ∷ 0 ∷ 16 ∷ 17 ∷ 19 ∷ 1 ∷ 20 ∷ 5 ∷ [])
-    ∷ (2 ∷ 2 ∷ write ∷ 5 ∷ 11 ∷ 12 ∷ 14 ∷ 1 ∷ 15 ∷ [])
-    ∷ (2 ∷ 3 ∷ read ∷ 0 ∷ 2 ∷ 4 ∷ 8 ∷ 1 ∷ 10 ∷ 0 ∷ [])
-    ∷ (1 ∷ 3 ∷ read ∷ 0 ∷ 1 ∷ 3 ∷ 7 ∷ 0 ∷ 9 ∷ [])
+    (1 ∷ 2 ∷ 2 ∷ read ∷ 0 ∷ 16 ∷ 17 ∷ 19 ∷ 1 ∷ 20 ∷ 5 ∷ [])
+    ∷ (2 ∷ 2 ∷ 2 ∷ write ∷ 5 ∷ 11 ∷ 12 ∷ 14 ∷ 1 ∷ 15 ∷ [])
+    ∷ (2 ∷ 1 ∷ 3 ∷ read ∷ 0 ∷ 2 ∷ 4 ∷ 8 ∷ 1 ∷ 10 ∷ 0 ∷ [])
+    ∷ (1 ∷ 1 ∷ 3 ∷ read ∷ 0 ∷ 1 ∷ 3 ∷ 7 ∷ 0 ∷ 9 ∷ [])
     ∷ []
 
 -- both complete, 2 writes slot 2, 1 reads slot 2
@@ -160,7 +160,7 @@ p7 = record {
       ∷ halts is (triple 0 0 0 ∷ [])
       ∷ phases is (triple 0 0 0 ∷ [])
       ∷ decided is operations
-      ∷ submits is (pair 17 2 ∷ pair 12 2 ∷ pair 4 3 ∷ pair 3 3 ∷ [])
+      ∷ submits is (triple 17 1 2 ∷ triple 12 2 2 ∷ triple 4 2 3 ∷ triple 3 1 3 ∷ [])
       ∷ [];
 }
 
@@ -174,7 +174,7 @@ p8 = record {
       newest 3 is (triple 0 0 0 ∷ triple 1 1 0 ∷ triple 2 1 0 ∷ [])
       ∷ halts is (triple 0 0 0 ∷ [])
       ∷ phases is (triple 0 0 0 ∷ [])
-      ∷ decided is ((1 ∷ 3 ∷ read ∷ 0 ∷ 21 ∷ 22 ∷ 24 ∷ 1 ∷ 25 ∷ 0 ∷ []) ∷ operations)
+      ∷ decided is ((1 ∷ 3 ∷ 3 ∷ read ∷ 0 ∷ 21 ∷ 22 ∷ 24 ∷ 1 ∷ 25 ∷ 0 ∷ []) ∷ operations)
       ∷ [];
 }
 
@@ -239,8 +239,8 @@ crashedAccepted = record {
   calls = writes 1 77 ∷ delivers 1 3 ++ (crash 1 ∷ deliver 1 ∷ wholeRead 2 1);
   claims =
       output is (pair 0 1 ∷ pair 0 2 ∷ pair 0 3 ∷ pair 0 4 ∷ pair 0 4 ∷ pair 10 4 ∷ prints (triple 0 0 77))
-      ∷ decided is ((2 ∷ 1 ∷ read ∷ 0 ∷ 7 ∷ 8 ∷ 10 ∷ 1 ∷ 11 ∷ 77 ∷ []) ∷ (1 ∷ 1 ∷ write ∷ 77 ∷ 1 ∷ 2 ∷ 4 ∷ 1 ∷ 0 ∷ []) ∷ [])
-      ∷ submits is (pair 8 1 ∷ pair 2 1 ∷ [])
+      ∷ decided is ((2 ∷ 1 ∷ 1 ∷ read ∷ 0 ∷ 7 ∷ 8 ∷ 10 ∷ 1 ∷ 11 ∷ 77 ∷ []) ∷ (1 ∷ 1 ∷ 1 ∷ write ∷ 77 ∷ 1 ∷ 2 ∷ 4 ∷ 1 ∷ 0 ∷ []) ∷ [])
+      ∷ submits is (triple 8 2 1 ∷ triple 2 1 1 ∷ [])
       ∷ [];
 }
 
@@ -253,7 +253,7 @@ crashedAborted = record {
   claims =
       output is (pair 0 1 ∷ pair 0 1 ∷ pair 0 2 ∷ pair 0 2 ∷ pair 0 3 ∷ pair 0 3
       ∷ pair 0 5 ∷ pair 0 5 ∷ pair 10 5 ∷ pair 0 4 ∷ triple 0 0 0 ∷ [])
-      ∷ decided is ((2 ∷ 3 ∷ read ∷ 0 ∷ 2 ∷ 4 ∷ 10 ∷ 1 ∷ 11 ∷ 0 ∷ []) ∷ (1 ∷ 3 ∷ read ∷ 0 ∷ 1 ∷ 3 ∷ 7 ∷ 0 ∷ 0 ∷ []) ∷ [])
+      ∷ decided is ((2 ∷ 1 ∷ 3 ∷ read ∷ 0 ∷ 2 ∷ 4 ∷ 10 ∷ 1 ∷ 11 ∷ 0 ∷ []) ∷ (1 ∷ 1 ∷ 3 ∷ read ∷ 0 ∷ 1 ∷ 3 ∷ 7 ∷ 0 ∷ 0 ∷ []) ∷ [])
       ∷ [];
 }
 
@@ -267,9 +267,9 @@ crashedSubmit = record {
       output
       is (pair 0 1 ∷ pair 0 2 ∷ pair 0 2 ∷ prints (triple 0 0 0) ++ prints (pair 0 0) ++ (pair 10 2 ∷ []))
       ∷ newest 3 is (triple 0 0 0 ∷ triple 0 0 0 ∷ triple 0 1 1 ∷ [])
-      ∷ running 1 is ((1 ∷ 3 ∷ read ∷ 0 ∷ 1 ∷ 2 ∷ []) ∷ [])
-      ∷ decided is ((3 ∷ 3 ∷ write ∷ 9 ∷ 9 ∷ 10 ∷ 12 ∷ 1 ∷ 13 ∷ []) ∷ (2 ∷ 3 ∷ read ∷ 0 ∷ 4 ∷ 5 ∷ 7 ∷ 1 ∷ 8 ∷ 0 ∷ []) ∷ [])
-      ∷ submits is (pair 10 3 ∷ pair 5 3 ∷ pair 2 3 ∷ [])
+      ∷ running 1 is ((1 ∷ 1 ∷ 3 ∷ read ∷ 0 ∷ 1 ∷ 2 ∷ []) ∷ [])
+      ∷ decided is ((3 ∷ 1 ∷ 3 ∷ write ∷ 9 ∷ 9 ∷ 10 ∷ 12 ∷ 1 ∷ 13 ∷ []) ∷ (2 ∷ 1 ∷ 3 ∷ read ∷ 0 ∷ 4 ∷ 5 ∷ 7 ∷ 1 ∷ 8 ∷ 0 ∷ []) ∷ [])
+      ∷ submits is (triple 10 3 3 ∷ triple 5 2 3 ∷ triple 2 1 3 ∷ [])
       ∷ [];
 }
 
