@@ -34,13 +34,13 @@ use Rattle.tables.proofs.Lent.{left-words}
 use Rattle.tables.proofs.Places.{table-positive}
 
 -- a table that no number of its own refuses
-pub good : (l : List ℕ) → tableNumber concur l ≡ 0 → Sound (words l 0) l
+pub good : (l : List ℕ) → tableNumber l ≡ 0 → Sound (words l 0) l
 unfolding tableNumber
 good l h =
     let n = words l 0 in
     let p1 = no-failure (inside 12 n) (omega arith) h in
     let p2 = no-failure (eqb (length l) (tableSize n)) (omega arith) (p1 .1) in
-    let p3 = no-failure (soundBoard concur n (boardOf n (words l))) (omega arith) (p2 .1) in
+    let p3 = no-failure (soundBoard n (boardOf n (words l))) (omega arith) (p2 .1) in
     record {
       table = record {
         least = inside-low 12 n (p1 .0);
@@ -51,7 +51,7 @@ good l h =
       sound = p3 .0;
     }
 
-pub some-words : (l : List ℕ) → tableNumber concur l ≡ 0 → 0 < length l
+pub some-words : (l : List ℕ) → tableNumber l ≡ 0 → 0 < length l
 some-words l h = omega (arith, good l h .table .long, table-positive (words l 0))
 
 pub within : (n i : ℕ) → inside n i ≡ true → Within n i
@@ -69,12 +69,12 @@ module _ (n : ℕ) (l : List ℕ) (call : Call) where
     left = record { table = t; board = rw (← e, ne-eqb k 0 ne) };
   }
 
-  pub takes : (exit : List ℕ) → 0 ≡ answer → Left n (done concur n (boardOf n (words l)) call) exit → Answered n l call 0 exit
+  pub takes : (exit : List ℕ) → 0 ≡ answer → Left n (done n (boardOf n (words l)) call) exit → Answered n l call 0 exit
   unfolding after
   takes exit e h = record { number = e; left = rw (← e) h }
 
 -- Any table, refused by a number of its own.
-module _ (l : List ℕ) (call : Call) (k : ℕ) (e : k ≡ tableNumber concur l) (ne : k ≡ 0 → ⊥) where
+module _ (l : List ℕ) (call : Call) (k : ℕ) (e : k ≡ tableNumber l) (ne : k ≡ 0 → ⊥) where
   pub own-number : k ≡ tableAnswer concur l call
   unfolding tableAnswer
   own-number = number-refuses _ e ne
@@ -92,8 +92,8 @@ module _ (l : List ℕ) (call : Call) (k : ℕ) (e : k ≡ tableNumber concur l)
   own-returns = stays none _ own-number ne
 
 -- A table that passed its check, after a call.
-module _ {k : ℕ} (l exit : List ℕ) (call : Call) (e : k ≡ tableNumber concur l) (z : k ≡ 0) where
-  passed : tableNumber concur l ≡ 0
+module _ {k : ℕ} (l exit : List ℕ) (call : Call) (e : k ≡ tableNumber l) (z : k ≡ 0) where
+  passed : tableNumber l ≡ 0
   passed = sym e ∙ z
 
   abbrev n : ℕ
@@ -132,7 +132,7 @@ pub turn : {n i : ℕ} {l : List ℕ} → Sound n l → Within n i
 turn {n} {i} {l} s w h =
     let m = boardOf n (words l) .members i in
     let d = deliver-taken n (m .phase) (m .crashed) i h in
-    let parts = board-parts concur n (boardOf n (words l)) (s .sound) .members i (inside-in n i (w .least) (w .most)) in
+    let parts = board-parts n (boardOf n (words l)) (s .sound) .members i (inside-in n i (w .least) (w .most)) in
     let p = parts .phase in
     let low = d .notIdle in
     let high = d .notHalted in
@@ -158,7 +158,7 @@ module _ (n : ℕ) (l : List ℕ) (call : Call) (r : Outcome) where
     (rw (← e, ne-eqb k 0 ne) b, λ _. c),
   )
 
-  pub hands : (exit : List ℕ) → 0 ≡ answerOf concur n (boardOf n (words l)) call → Left n (done concur n (boardOf n (words l)) call) exit
+  pub hands : (exit : List ℕ) → 0 ≡ answerOf concur n (boardOf n (words l)) call → Left n (done n (boardOf n (words l)) call) exit
       → Taken r (doneReturns (boardOf n (words l)) call) → Handed n l call r exit
   hands exit e h t = (
     rw (t .number) (takes n l call exit e h),
@@ -190,8 +190,8 @@ module _ (n : ℕ) (b : Board) (i p : ℕ) (e : b .members i .phase ≡ p) where
   unfolding boardReturned
   last-returned = rw e
 
-  pub last-phase : (p ≡ 1 → ⊥) → (p ≡ 2 → ⊥) → (p ≡ 3 → ⊥) → outcomeTaken b i (eqb p 4) ≡ boardDelivered concur n b i
-  last-phase x y z = sym (board-phase concur n b i p e ∙ rw (ne-eqb p 1 x, ne-eqb p 2 y, ne-eqb p 3 z))
+  pub last-phase : (p ≡ 1 → ⊥) → (p ≡ 2 → ⊥) → (p ≡ 3 → ⊥) → outcomeTaken b i (eqb p 4) ≡ boardDelivered n b i
+  last-phase x y z = sym (board-phase n b i p e ∙ rw (ne-eqb p 1 x, ne-eqb p 2 y, ne-eqb p 3 z))
 
 pub count-room : {k : ℕ} → k < concur .limit → k + 1 < 2 ^ 32
 count-room h = omega arith

@@ -33,11 +33,11 @@ module _ (long due : ℕ) (l : List ℕ) (call : Call) where
   beside-refused e ne = stays l _ e ne
 
   -- by the table's own number
-  pub beside-own : {k : ℕ} → k ≡ tableNumber concur l → (k ≡ 0 → ⊥) → k ≡ answerBeside long due l call
+  pub beside-own : {k : ℕ} → k ≡ tableNumber l → (k ≡ 0 → ⊥) → k ≡ answerBeside long due l call
   unfolding answerBeside
   beside-own e ne = number-refuses _ e ne
 
-  module _ {k : ℕ} (e : k ≡ tableNumber concur l) (z : k ≡ 0) where
+  module _ {k : ℕ} (e : k ≡ tableNumber l) (z : k ≡ 0) where
     -- by the slice's length
     pub beside-long : (long ≡ due → ⊥) → 2 ≡ answerBeside long due l call
     unfolding answerBeside

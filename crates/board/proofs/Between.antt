@@ -10,7 +10,6 @@ use Rattle.lists.specs.Parts.{words}
 use Rattle.lists.proofs.Parts.{words-zeros}
 use Rattle.model.specs.Records.{Rec, zeroValue, recordWithin}
 use Rattle.model.specs.RecordWords.{valueOf}
-use Rattle.model.specs.Kinds.{concur}
 use Rattle.model.specs.Member.{Member, answered, judged, returnedBy}
 use Rattle.model.specs.Host.{Entry, submitted, wins, entryAfter, storedAfter}
 use Rattle.model.specs.Board.{Board, withMember, submitTaken, sentRecord, commitTaken}
@@ -72,10 +71,10 @@ module _ (b : Board) (i : ℕ) (after : Board) (p : Member) where
       → after ≡ record {
         members = b .members;
         host = put (b .host) (m .slot) (entryAfter (b .host (m .slot)) (sentRecord i m));
-        stored = put (b .stored) (m .slot) (storedAfter concur (b .host (m .slot)) (b .stored (m .slot)) (sentRecord i m));
+        stored = put (b .stored) (m .slot) (storedAfter (b .host (m .slot)) (b .stored (m .slot)) (sentRecord i m));
       }
       → p ≡ judged m won → won ≡ wins (b .host (m .slot)) (sentRecord i m)
-      → withMember after i p ≡ commitTaken concur b i
+      → withMember after i p ≡ commitTaken b i
   unfolding withMember commitTaken
   commit-joins won e f g = rw (e, f, g)
 
@@ -140,9 +139,9 @@ module _ {n i at size hostStart hostWords : ℕ} {l : List ℕ} (h : BlockLent n
     pub commit-left : (slot : ℕ) (sent : Rec) (won : Bool) → sent ≡ sentRecord i (memberOf n (words (part l at size))) → slot ≡ sent .slot
         → won ≡ wins (entries slot) sent
         → hostOf n (words p) ≡ put entries slot (entryAfter (entries slot) (recordWithin n sent))
-        → storedRecordsOf n (words p) ≡ put storeds slot (storedAfter concur (entries slot) (storeds slot) (recordWithin n sent))
+        → storedRecordsOf n (words p) ≡ put storeds slot (storedAfter (entries slot) (storeds slot) (recordWithin n sent))
         → memberOf n (words q) ≡ judged (memberOf n (words (part middle at size))) won
-        → Left n (commitTaken concur before i) (back middle at size q)
+        → Left n (commitTaken before i) (back middle at size q)
     unfolding sentRecord
     commit-left slot sent won a b c d e f =
         let m = before .members i in
@@ -152,16 +151,16 @@ module _ {n i at size hostStart hostWords : ℕ} {l : List ℕ} (h : BlockLent n
         let within : recordWithin n sent ≡ sentRecord i m = ap (recordWithin n) sentIs ∙ sent-within n (words l) i (h .member) in
         block-left lent-again q same (commit-joins before i (boardOf n (words middle)) (memberOf n (words q)) won
         (joined (put (before .host) r (entryAfter (before .host r) (sentRecord i m)))
-        (put (before .stored) r (storedAfter concur (before .host r) (before .stored r) (sentRecord i m)))
+        (put (before .stored) r (storedAfter (before .host r) (before .stored r) (sentRecord i m)))
         (d
         ∙ ap (λ f. put f slot (entryAfter (f slot) (recordWithin n sent))) (entries-lent t)
         ∙ ap (λ r. put (before .host) r (entryAfter (before .host r) (recordWithin n sent))) slotIs
         ∙ ap (λ c. put (before .host) r (entryAfter (before .host r) c)) within)
         (e
-        ∙ ap (λ f. put storeds slot (storedAfter concur (f slot) (storeds slot) (recordWithin n sent))) (entries-lent t)
-        ∙ ap (λ g. put g slot (storedAfter concur (before .host slot) (g slot) (recordWithin n sent))) (stored-lent t)
-        ∙ ap (λ r. put (before .stored) r (storedAfter concur (before .host r) (before .stored r) (recordWithin n sent))) slotIs
-        ∙ ap (λ c. put (before .stored) r (storedAfter concur (before .host r) (before .stored r) c)) within))
+        ∙ ap (λ f. put storeds slot (storedAfter (f slot) (storeds slot) (recordWithin n sent))) (entries-lent t)
+        ∙ ap (λ g. put g slot (storedAfter (before .host slot) (g slot) (recordWithin n sent))) (stored-lent t)
+        ∙ ap (λ r. put (before .stored) r (storedAfter (before .host r) (before .stored r) (recordWithin n sent))) slotIs
+        ∙ ap (λ c. put (before .stored) r (storedAfter (before .host r) (before .stored r) c)) within))
         (f ∙ ap (λ m. judged m won) same-member)
         (c
         ∙ ap (λ f. wins (f slot) sent) (entries-lent t)

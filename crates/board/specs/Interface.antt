@@ -5,9 +5,8 @@ use mathlib.Core.List.{List, _∷_}
 use mathlib.Core.Option.{Option, none, some}
 use lib.Dec.{eqb}
 use lib.ListN.{length}
-use Rattle.lists.specs.Functions.{inside}
 use Rattle.lists.specs.Parts.{words, listed}
-use Rattle.model.specs.Kinds.{concur}
+use Rattle.model.specs.Kinds.{isSize, concur}
 use Rattle.model.specs.Records.{Value, zeroValue}
 use Rattle.model.specs.Runs.{Call, answerOf, done}
 use Rattle.model.specs.Table.{valueSize, tableSize, tableWords, tableNumber}
@@ -16,19 +15,19 @@ use Rattle.model.specs.Halves.{orElse, unlessRefused}
 
 -- how many words a table has: none where n is not 1 to 12
 unfoldable pub wordsFor : ℕ → ℕ
-wordsFor n = cond (inside 12 n) (tableSize n) 0
+wordsFor n = cond (isSize n) (tableSize n) 0
 
 -- a call with a slice beside the table, which is `long` where it should be `due` words: 3, 2, 3 of the table, 2 of the slice, the call's own
 unfoldable pub answerBeside : ℕ → ℕ → List ℕ → Call → ℕ
 answerBeside long due l call =
-    orElse (tableNumber concur l)
+    orElse (tableNumber l)
     (cond (not (eqb long due)) 2
     (answerOf concur (words l 0) (boardIn l) call))
 
 unfoldable pub afterBeside : ℕ → ℕ → List ℕ → Call → List ℕ
 afterBeside long due l call =
     let n = words l 0 in
-    unlessRefused (answerBeside long due l call) l (tableWords n (done concur n (boardIn l) call))
+    unlessRefused (answerBeside long due l call) l (tableWords n (done n (boardIn l) call))
 
 -- nine words: 1 and the value, or 0 and eight zeros
 unfoldable pub returnedWords : Option Value → List ℕ

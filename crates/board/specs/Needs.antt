@@ -13,7 +13,7 @@ use Rattle.tables.specs.Needs.{Table, Left}
 -- a table that passed its check
 pub record Sound (n : ℕ) (l : List ℕ) : Type 0 where
   pub table : Table n l
-  pub sound : soundBoard concur n (boardOf n (words l)) ≡ true
+  pub sound : soundBoard n (boardOf n (words l)) ≡ true
 
 -- a table, and one of its members whose operation has a slot of the board
 pub record Turn (n i : ℕ) (l : List ℕ) : Type 0 where

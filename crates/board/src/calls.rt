@@ -1,9 +1,8 @@
 // The calls on a table that passed its check: the numbers from 4 on, then the step.
 ghost use mathlib.Core.Path.{_≡_};
-ghost use mathlib.Core.Bool.{false, true, cond};
+ghost use mathlib.Core.Bool.{false, cond};
 ghost use mathlib.Core.Option.{none};
 ghost use lib.Dec.{eqb};
-ghost use Rattle.lists.specs.Functions.{inside};
 ghost use Rattle.lists.specs.Parts.{words};
 ghost use Rattle.model.specs.Kinds.{concur};
 ghost use Rattle.model.specs.Records.{zeroValue};
@@ -68,7 +67,7 @@ pub fn nothing(number: u32) -> Outcome
 fn delivered(table: &mut [u32], n: usize, member: u32, phase: u32) -> Outcome
     requires { ⌜ (Turn n member (now table)) × (phase ≡ boardOf n (words (now table)) .members member .phase) ⌝ }
     ensures { λ r. ⌜ Taken r (boardReturned (boardOf n (words (now (table .entry)))) member) ⌝ }
-    ensures { λ _. ⌜ Left n (boardDelivered concur n (boardOf n (words (now (table .entry)))) member) (now (table .exit)) ⌝ }
+    ensures { λ _. ⌜ Left n (boardDelivered n (boardOf n (words (now (table .entry)))) member) (now (table .exit)) ⌝ }
 {
     if phase == 1 {
         submit_taken(table, n, member);

@@ -30,8 +30,8 @@ pub extern "C" fn concur_board_words(n: u32) -> u32
 
 #[no_mangle]
 pub extern "C" fn concur_board_open(table: &mut [u32], n: u32) -> u32
-    ensures { λ r. ⌜ r ≡ openNumber n (now (table .entry)) ⌝ }
-    ensures { λ _. ⌜ now (table .exit) ≡ openWords n (now (table .entry)) ⌝ }
+    ensures { λ r. ⌜ r ≡ openNumber concur n (now (table .entry)) ⌝ }
+    ensures { λ _. ⌜ now (table .exit) ≡ openWords concur n (now (table .entry)) ⌝ }
 {
     open(table, n)
 }

@@ -27,8 +27,8 @@ use tables::steps::table_size;
 
 // Opening, on a table whose old words are not looked at.
 pub fn open(table: &mut [u32], n: u32) -> u32
-    ensures { λ r. ⌜ r ≡ openNumber n (now (table .entry)) ⌝ }
-    ensures { λ _. ⌜ now (table .exit) ≡ openWords n (now (table .entry)) ⌝ }
+    ensures { λ r. ⌜ r ≡ openNumber concur n (now (table .entry)) ⌝ }
+    ensures { λ _. ⌜ now (table .exit) ≡ openWords concur n (now (table .entry)) ⌝ }
 {
     if !is_numbered(n, 12) {
         return 1;

@@ -1,6 +1,5 @@
 // Deliver, by phase: the parts of the table that the halves are lent, and what passes between them.
 ghost use Rattle.lists.specs.Parts.{words};
-ghost use Rattle.model.specs.Kinds.{concur};
 ghost use Rattle.model.specs.Board.{submitTaken, replyTaken, commitTaken, outcomeTaken};
 ghost use Rattle.model.specs.Member.{returnedBy};
 ghost use Rattle.model.specs.Table.{boardOf};
@@ -48,7 +47,7 @@ pub fn reply_taken(table: &mut [u32], n: usize, member: u32)
 // Phase 3: the host takes the commit, and the member notes the verdict.
 pub fn commit_taken(table: &mut [u32], n: usize, member: u32)
     requires { ⌜ Turn n member (now table) ⌝ }
-    ensures { λ _. ⌜ Left n (commitTaken concur (boardOf n (words (now (table .entry)))) member) (now (table .exit)) ⌝ }
+    ensures { λ _. ⌜ Left n (commitTaken (boardOf n (words (now (table .entry)))) member) (now (table .exit)) ⌝ }
 {
     let at = block_at(n, member as usize);
     let end = at + block_size(n);

@@ -12,7 +12,7 @@ use Rattle.lists.specs.Parts.{words}
 use Rattle.lists.proofs.Functions.{inside-low, inside-high}
 use Rattle.lists.proofs.Refusals.{no-ground, no-failure, no-number}
 use Rattle.model.specs.Records.{Rec, recordWithin}
-use Rattle.model.specs.Kinds.{concur, isOperation, barred}
+use Rattle.model.specs.Kinds.{isOperation, barred}
 use Rattle.model.specs.Host.{Entry, submitted, wins, entryAfter, storedAfter}
 use Rattle.model.specs.Table.{hostSize, hostOf, storedRecordsOf, hostWords, soundHost, entriesNumber}
 use Rattle.model.specs.Halves.{hostNumber, submitWords, commitNumber, commitOutcome, commitWords}
@@ -29,9 +29,9 @@ pub record Good (n : ℕ) (l : List ℕ) (i r t : ℕ) : Type 0 where
   pub slotLeast : 1 ≤ r
   pub slotMost : r ≤ n
   pub operation : isOperation t ≡ true
-  pub allowed : barred concur i r t ≡ false
+  pub allowed : barred i r t ≡ false
 
-pub good : (n : ℕ) (l : List ℕ) (i r t : ℕ) → hostNumber concur n l i r t ≡ 0 → Good n l i r t
+pub good : (n : ℕ) (l : List ℕ) (i r t : ℕ) → hostNumber n l i r t ≡ 0 → Good n l i r t
 unfolding hostNumber entriesNumber
 good n l i r t h =
     let g1 = no-number _ h in
@@ -42,7 +42,7 @@ good n l i r t h =
     let p4 = no-failure (inside n i) (omega arith) (g2 .1) in
     let p5 = no-failure (inside n r) (omega arith) (p4 .1) in
     let p6 = no-failure (isOperation t) (omega arith) (p5 .1) in
-    let p7 = no-ground (barred concur i r t) (omega arith) (p6 .1) in
+    let p7 = no-ground (barred i r t) (omega arith) (p6 .1) in
     record {
       least = inside-low 12 n (p1 .0);
       most = inside-high 12 n (p1 .0);
@@ -56,7 +56,7 @@ good n l i r t h =
       allowed = p7 .0;
     }
 
-pub good-slot : (n : ℕ) (l : List ℕ) (i r t : ℕ) → hostNumber concur n l i r t ≡ 0 → Slot n r l
+pub good-slot : (n : ℕ) (l : List ℕ) (i r t : ℕ) → hostNumber n l i r t ≡ 0 → Slot n r l
 good-slot n l i r t h =
     let g = good n l i r t h in
     record { most = g .most; long = g .long; slotLeast = g .slotLeast; slotMost = g .slotMost }
@@ -68,22 +68,22 @@ entries-of n l host stored h p q = sym (host-back n l h) ∙ rw (p, q)
 
 -- What a submit and a commit leave and answer, by what the entries decode to.
 module _ (n : ℕ) (l exit : List ℕ) (same : length exit ≡ length l) where
-  pub submit-leaves : (i r t count : ℕ) → hostNumber concur n l i r t ≡ 0
+  pub submit-leaves : (i r t count : ℕ) → hostNumber n l i r t ≡ 0
       → hostOf n (words exit) ≡ put (hostOf n (words l)) r (submitted (hostOf n (words l) r) i count)
       → storedRecordsOf n (words exit) ≡ storedRecordsOf n (words l)
-      → exit ≡ submitWords concur n l i r t count
+      → exit ≡ submitWords n l i r t count
   unfolding submitWords
   submit-leaves i r t count h p q = rw h (entries-of n exit _ _ (same ∙ good n l i r t h .long) p q)
 
-  pub commit-leaves : (c : Rec) → commitNumber concur n l c ≡ 0
+  pub commit-leaves : (c : Rec) → commitNumber n l c ≡ 0
       → hostOf n (words exit) ≡ put (hostOf n (words l)) (c .slot) (entryAfter (hostOf n (words l) (c .slot)) c)
       → storedRecordsOf n (words exit)
-      ≡ put (storedRecordsOf n (words l)) (c .slot) (storedAfter concur (hostOf n (words l) (c .slot)) (storedRecordsOf n (words l) (c .slot)) c)
-      → exit ≡ commitWords concur n l c
+      ≡ put (storedRecordsOf n (words l)) (c .slot) (storedAfter (hostOf n (words l) (c .slot)) (storedRecordsOf n (words l) (c .slot)) c)
+      → exit ≡ commitWords n l c
   unfolding commitWords commitNumber
   commit-leaves c h p q = rw h (entries-of n exit _ _ (same ∙ good n l (c .member) (c .slot) (c .operation) h .long) p q)
 
-pub commit-answers : (n : ℕ) (l : List ℕ) (c : Rec) (won : Bool) → commitNumber concur n l (recordWithin n c) ≡ 0
-    → wins (hostOf n (words l) (c .slot)) c ≡ won → cond won 1 2 ≡ commitOutcome concur n l (recordWithin n c)
+pub commit-answers : (n : ℕ) (l : List ℕ) (c : Rec) (won : Bool) → commitNumber n l (recordWithin n c) ≡ 0
+    → wins (hostOf n (words l) (c .slot)) c ≡ won → cond won 1 2 ≡ commitOutcome n l (recordWithin n c)
 unfolding commitOutcome recordWithin wins
 commit-answers n l c won h p = rw (h, p)

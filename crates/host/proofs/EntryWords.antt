@@ -17,7 +17,7 @@ use Rattle.lists.proofs.Parts.{words-replaced, length-replaced}
 use Rattle.lists.proofs.Pieces.{part-at}
 use Rattle.model.specs.Records.{Rec, recordWithin}
 use Rattle.model.specs.RecordWords.{recordSize, recordOf, recordWords}
-use Rattle.model.specs.Kinds.{concur, becomesStored}
+use Rattle.model.specs.Kinds.{becomesStored}
 use Rattle.model.specs.Host.{Entry, submitted, wins, entryAfter, storedAfter}
 use Rattle.model.specs.Table.{storedAt, newestAt, entrySize, hostSize, entryOf, storedOf}
 use Rattle.laws.proofs.Records.{length-recordWords, recordOf-same, recordOf-replaced, recordOf-before, recordOf-after}
@@ -172,7 +172,7 @@ module _ (n : ℕ) (e : Entry) (stored c : Rec) where
   unfolding entryAfter
   entry-lost h = rw (wins-within, h)
 
-  pub stored-lost : wins e c ≡ false → storedAfter concur e stored (recordWithin n c) ≡ stored
+  pub stored-lost : wins e c ≡ false → storedAfter e stored (recordWithin n c) ≡ stored
   unfolding storedAfter
   stored-lost h = rw (wins-within, h)
 
@@ -180,10 +180,10 @@ module _ (n : ℕ) (e : Entry) (stored c : Rec) where
   unfolding entryAfter
   entry-won h = rw (wins-within, h)
 
-  stores-within : becomesStored concur (recordWithin n c) ≡ becomesStored concur c
+  stores-within : becomesStored (recordWithin n c) ≡ becomesStored c
   unfolding becomesStored recordWithin
   stores-within = refl
 
-  pub stored-won : wins e c ≡ true → storedAfter concur e stored (recordWithin n c) ≡ cond (becomesStored concur c) (recordWithin n c) stored
+  pub stored-won : wins e c ≡ true → storedAfter e stored (recordWithin n c) ≡ cond (becomesStored c) (recordWithin n c) stored
   unfolding storedAfter
   stored-won h = rw (wins-within, h, stores-within)

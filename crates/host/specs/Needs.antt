@@ -7,7 +7,7 @@ use mathlib.Core.Bool.{cond, not}
 use lib.ListN.{length}
 use Rattle.lists.specs.Functions.{inside}
 use Rattle.lists.specs.Pieces.{place}
-use Rattle.model.specs.Kinds.{concur, isOperation, barred}
+use Rattle.model.specs.Kinds.{isOperation, barred}
 use Rattle.model.specs.Table.{entrySize, hostSize}
 
 -- the n host entries of a board of n
@@ -39,5 +39,5 @@ fieldsNumber n i r t =
     cond (not (inside n i)) 4
     (cond (not (inside n r)) 5
     (cond (not (isOperation t)) 6
-    (cond (barred concur i r t) 7
+    (cond (barred i r t) 7
     0)))

@@ -2,7 +2,7 @@
 ghost use mathlib.Core.Path.{_≡_};
 ghost use mathlib.Core.Bool.{cond};
 ghost use Rattle.lists.specs.Parts.{words};
-ghost use Rattle.model.specs.Kinds.{concur, becomesStored};
+ghost use Rattle.model.specs.Kinds.{becomesStored};
 ghost use Rattle.model.specs.Records.{recordWithin, opening};
 ghost use Rattle.model.specs.Board.{openingEntry};
 ghost use Rattle.model.specs.Host.{submitted, wins, entryAfter, storedAfter};
@@ -46,7 +46,7 @@ pub fn submit_entry(entry: &mut [u32], n: usize, member: u32, count: u32) -> Rep
 fn accept(entry: &mut [u32], n: usize, committed: Record)
     requires { ⌜ OneEntry n (now entry) ⌝ }
     ensures { λ _. ⌜ entryOf n (words (now (entry .exit))) ≡ record { submitMember = 0; submitCount = 0; newest = recordWithin n (recordIn committed) } ⌝ }
-    ensures { λ _. ⌜ storedOf n (words (now (entry .exit))) ≡ cond (becomesStored concur (recordIn committed)) (recordWithin n (recordIn committed)) (storedOf n (words (now (entry .entry)))) ⌝ }
+    ensures { λ _. ⌜ storedOf n (words (now (entry .exit))) ≡ cond (becomesStored (recordIn committed)) (recordWithin n (recordIn committed)) (storedOf n (words (now (entry .entry)))) ⌝ }
 {
     entry[SUBMIT_MEMBER_AT] = 0;
     entry[SUBMIT_COUNT_AT] = 0;
@@ -71,7 +71,7 @@ pub fn commit_entry(entry: &mut [u32], n: usize, committed: Record) -> bool
     requires { ⌜ OneEntry n (now entry) ⌝ }
     ensures { λ r. ⌜ r ≡ wins (entryOf n (words (now (entry .entry)))) (recordIn committed) ⌝ }
     ensures { λ r. ⌜ entryOf n (words (now (entry .exit))) ≡ entryAfter (entryOf n (words (now (entry .entry)))) (recordWithin n (recordIn committed)) ⌝ }
-    ensures { λ r. ⌜ storedOf n (words (now (entry .exit))) ≡ storedAfter concur (entryOf n (words (now (entry .entry)))) (storedOf n (words (now (entry .entry)))) (recordWithin n (recordIn committed)) ⌝ }
+    ensures { λ r. ⌜ storedOf n (words (now (entry .exit))) ≡ storedAfter (entryOf n (words (now (entry .entry)))) (storedOf n (words (now (entry .entry)))) (recordWithin n (recordIn committed)) ⌝ }
 {
     if entry[SUBMIT_MEMBER_AT] != committed.member {
         return false;

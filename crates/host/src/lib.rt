@@ -2,7 +2,6 @@
 ghost use mathlib.Core.Path.{_≡_};
 ghost use mathlib.Core.Bool.{cond};
 ghost use lib.Dec.{eqb};
-ghost use Rattle.model.specs.Kinds.{concur};
 ghost use Rattle.model.specs.Records.{recordWithin, zeroRecord};
 ghost use Rattle.model.specs.Halves.{hostNumber, submitWords, submitNewest, submitStored, commitNumber, commitOutcome, commitWords};
 ghost use Rattle.records.specs.Meaning.{recordIn};
@@ -36,10 +35,10 @@ pub fn take_submit(
     operation: u32,
     count: u32,
 ) -> Reply
-    ensures { λ r. ⌜ r .number ≡ hostNumber concur n (now (entries .entry)) member slot operation ⌝ }
+    ensures { λ r. ⌜ r .number ≡ hostNumber n (now (entries .entry)) member slot operation ⌝ }
     ensures { λ r. ⌜ recordIn (r .newest) ≡ cond (eqb (r .number) 0) (submitNewest n (now (entries .entry)) slot) zeroRecord ⌝ }
     ensures { λ r. ⌜ recordIn (r .stored) ≡ cond (eqb (r .number) 0) (submitStored n (now (entries .entry)) slot) zeroRecord ⌝ }
-    ensures { λ r. ⌜ now (entries .exit) ≡ submitWords concur n (now (entries .entry)) member slot operation count ⌝ }
+    ensures { λ r. ⌜ now (entries .exit) ≡ submitWords n (now (entries .entry)) member slot operation count ⌝ }
 {
     let number = host_number(entries, n, member, slot, operation);
     if number != 0 {
@@ -53,9 +52,9 @@ pub fn take_submit(
 }
 
 pub fn take_commit(entries: &mut [u32], n: u32, committed: Record) -> Verdict
-    ensures { λ r. ⌜ r .number ≡ commitNumber concur n (now (entries .entry)) (recordWithin n (recordIn committed)) ⌝ }
-    ensures { λ r. ⌜ r .outcome ≡ commitOutcome concur n (now (entries .entry)) (recordWithin n (recordIn committed)) ⌝ }
-    ensures { λ r. ⌜ now (entries .exit) ≡ commitWords concur n (now (entries .entry)) (recordWithin n (recordIn committed)) ⌝ }
+    ensures { λ r. ⌜ r .number ≡ commitNumber n (now (entries .entry)) (recordWithin n (recordIn committed)) ⌝ }
+    ensures { λ r. ⌜ r .outcome ≡ commitOutcome n (now (entries .entry)) (recordWithin n (recordIn committed)) ⌝ }
+    ensures { λ r. ⌜ now (entries .exit) ≡ commitWords n (now (entries .entry)) (recordWithin n (recordIn committed)) ⌝ }
 {
     let number = host_number(
         entries,

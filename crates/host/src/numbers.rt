@@ -3,7 +3,6 @@ ghost use mathlib.Core.Path.{_≡_};
 ghost use Prim.Native.Nat.{_≤_};
 ghost use lib.ListN.{length};
 ghost use Rattle.lists.specs.Parts.{words};
-ghost use Rattle.model.specs.Kinds.{concur};
 ghost use Rattle.model.specs.Table.{hostOf, storedRecordsOf, entriesNumber};
 ghost use Rattle.model.specs.Halves.{hostNumber};
 ghost use Rattle.host.specs.Needs.{fieldsNumber};
@@ -47,7 +46,7 @@ fn fields_number(n: u32, member: u32, slot: u32, operation: u32) -> u32
 }
 
 pub fn host_number(entries: &[u32], n: u32, member: u32, slot: u32, operation: u32) -> u32
-    ensures { λ r. ⌜ r ≡ hostNumber concur n (now (entries .entry)) member slot operation ⌝ }
+    ensures { λ r. ⌜ r ≡ hostNumber n (now (entries .entry)) member slot operation ⌝ }
 {
     if !is_numbered(n, 12) {
         return 1;

@@ -3,7 +3,6 @@ ghost use mathlib.Core.Path.{_≡_};
 ghost use Prim.Native.Nat.{_≤_};
 ghost use Rattle.lists.specs.Functions.{put};
 ghost use Rattle.lists.specs.Parts.{words};
-ghost use Rattle.model.specs.Kinds.{concur};
 ghost use Rattle.model.specs.Records.{recordWithin};
 ghost use Rattle.model.specs.Host.{submitted, wins, entryAfter, storedAfter};
 ghost use Rattle.model.specs.Board.{opened};
@@ -62,7 +61,7 @@ pub fn commit(entries: &mut [u32], n: usize, committed: Record) -> bool
     requires { ⌜ Slot n (committed .slot) (now entries) ⌝ }
     ensures { λ r. ⌜ r ≡ wins (hostOf n (words (now (entries .entry))) (committed .slot)) (recordIn committed) ⌝ }
     ensures { λ r. ⌜ hostOf n (words (now (entries .exit))) ≡ put (hostOf n (words (now (entries .entry)))) (committed .slot) (entryAfter (hostOf n (words (now (entries .entry))) (committed .slot)) (recordWithin n (recordIn committed))) ⌝ }
-    ensures { λ r. ⌜ storedRecordsOf n (words (now (entries .exit))) ≡ put (storedRecordsOf n (words (now (entries .entry)))) (committed .slot) (storedAfter concur (hostOf n (words (now (entries .entry))) (committed .slot)) (storedRecordsOf n (words (now (entries .entry))) (committed .slot)) (recordWithin n (recordIn committed))) ⌝ }
+    ensures { λ r. ⌜ storedRecordsOf n (words (now (entries .exit))) ≡ put (storedRecordsOf n (words (now (entries .entry)))) (committed .slot) (storedAfter (hostOf n (words (now (entries .entry))) (committed .slot)) (storedRecordsOf n (words (now (entries .entry))) (committed .slot)) (recordWithin n (recordIn committed))) ⌝ }
 {
     let slot = committed.slot;
     let at = entry_place(n, slot as usize);

@@ -38,17 +38,17 @@ numbered n k h = record { least = inside-low n k h; most = inside-high n k h }
 -- 1, 2, 3, 4: a sound block of member i of a board of n
 pub record Good (n i : ℕ) (l : List ℕ) : Type 0 where
   pub block : Block n l
-  pub sound : soundMember concur n i (memberOf n (words l)) ≡ true
+  pub sound : soundMember n i (memberOf n (words l)) ≡ true
   pub member : Within n i
 
-pub good : (n i : ℕ) (l : List ℕ) → memberNumber concur n i l ≡ 0 → Good n i l
+pub good : (n i : ℕ) (l : List ℕ) → memberNumber n i l ≡ 0 → Good n i l
 unfolding memberNumber blockNumber
 good n i l h =
     let g1 = no-number _ h in
     let p1 = no-failure (inside 12 n) (omega arith) (g1 .0) in
     let g2 = no-number _ (g1 .1) in
     let p2 = no-failure (eqb (length l) (blockSize n)) (omega arith) (g2 .0) in
-    let p3 = no-failure (soundMember concur n i (memberOf n (words l))) (omega arith) (p2 .1) in
+    let p3 = no-failure (soundMember n i (memberOf n (words l))) (omega arith) (p2 .1) in
     let p4 = no-failure (inside n i) (omega arith) (g2 .1) in
     record {
       block = record { least = inside-low 12 n (p1 .0); most = inside-high 12 n (p1 .0); long = eqb-true (length l) (blockSize n) (p2 .0) };
@@ -62,17 +62,17 @@ fourth-and-sixth a b c d e f g h p =
     let six = first (a && b && c && d && e && f) g (first (a && b && c && d && e && f && g) h p) in
     (second (a && b && c) d (first (a && b && c && d) e (first (a && b && c && d && e) f six)), second (a && b && c && d && e) f six)
 
-pub sound-slot : (n i : ℕ) (m : Member) → soundMember concur n i m ≡ true → inside 5 (m .phase) ≡ true → Within n (m .slot)
+pub sound-slot : (n i : ℕ) (m : Member) → soundMember n i m ≡ true → inside 5 (m .phase) ≡ true → Within n (m .slot)
 unfolding soundMember soundOperation
 sound-slot n i m p q = record {
   least = leb-true 1 (m .slot) (first (leb 1 (m .slot)) (leb 1 (m .operation))
-      (first (leb 1 (m .slot) && leb 1 (m .operation)) (not (barred concur i (m .slot) (m .operation))) (rw q at (parts .1))));
+      (first (leb 1 (m .slot) && leb 1 (m .operation)) (not (barred i (m .slot) (m .operation))) (rw q at (parts .1))));
   most = leb-true (m .slot) n (parts .0);
 }
   where
-    parts : (leb (m .slot) n ≡ true) × (soundOperation concur i m ≡ true)
+    parts : (leb (m .slot) n ≡ true) × (soundOperation i m ≡ true)
     parts = fourth-and-sixth (leb (m .phase) 6) (leb (m .crashed) 1) (eqb (m .halt) 0 || leb 21 (m .halt) && leb (m .halt) 27)
-        (leb (m .slot) n) (leb (m .operation) 2) (soundOperation concur i m) (soundRecord n (m .first)) (soundRecord n (m .second)) p
+        (leb (m .slot) n) (leb (m .operation) 2) (soundOperation i m) (soundRecord n (m .first)) (soundRecord n (m .second)) p
 
 running : (n i : ℕ) (l : List ℕ) → Good n i l → inside 5 (memberOf n (words l) .phase) ≡ true → Running n l
 running n i l g h = record { block = g .block; slot = sound-slot n i (memberOf n (words l)) (g .sound) h }
@@ -84,7 +84,7 @@ pub begin-good : (n i : ℕ) (l : List ℕ) (r t : ℕ) → memberBeginNumber co
 unfolding memberBeginNumber
 begin-good n i l r t h =
     let m = memberOf n (words l) in
-    let z = no-number (memberNumber concur n i l) h in
+    let z = no-number (memberNumber n i l) h in
     let k = begin-taken concur n (m .phase) (m .crashed) (m .own r) i r t (z .1) in
     let room : m .own r < 4294967295 = k .room in
     (good n i l (z .0) .block, (numbered n r (k .slot), omega arith))
@@ -95,26 +95,26 @@ unfolding notWaiting
 waits p m h = eqb-true (m .phase) p (not-false (eqb (m .phase) p) (neither (not (eqb (m .phase) p)) (not (eqb (m .crashed) 0)) h))
 
 waiting-good : (n i : ℕ) (l : List ℕ) (p tail : ℕ) → inside 5 p ≡ true
-    → orElse (memberNumber concur n i l) (cond (notWaiting p (memberOf n (words l))) 10 tail) ≡ 0 → (Running n l) × (Within n i)
+    → orElse (memberNumber n i l) (cond (notWaiting p (memberOf n (words l))) 10 tail) ≡ 0 → (Running n l) × (Within n i)
 waiting-good n i l p tail h e =
     let m = memberOf n (words l) in
-    let z = no-number (memberNumber concur n i l) e in
+    let z = no-number (memberNumber n i l) e in
     let g = good n i l (z .0) in
     (running n i l g (rw (waits p m (no-ground (notWaiting p m) (omega arith) (z .1) .0)) h), g .member)
 
-pub reply-good : (n i : ℕ) (l : List ℕ) (newest stored : Rec) (seals : ℕ) → replyNumber concur n i l newest stored seals ≡ 0
+pub reply-good : (n i : ℕ) (l : List ℕ) (newest stored : Rec) (seals : ℕ) → replyNumber n i l newest stored seals ≡ 0
     → (Running n l) × (Within n i)
 unfolding replyNumber inside
 reply-good n i l newest stored seals h =
     waiting-good n i l 1 (cond (not (leb seals 3 && (fitRecord n newest && fitRecord n stored))) 15 0) refl h
 
-pub outcome-good : (n i : ℕ) (l : List ℕ) (result : ℕ) → outcomeNumber concur n i l result ≡ 0 → Running n l
+pub outcome-good : (n i : ℕ) (l : List ℕ) (result : ℕ) → outcomeNumber n i l result ≡ 0 → Running n l
 unfolding outcomeNumber inside
 outcome-good n i l result h = waiting-good n i l 3 (cond (not (inside 2 result)) 15 0) refl h .0
 
-pub crash-good : (n i : ℕ) (l : List ℕ) → memberCrashNumber concur n i l ≡ 0 → Block n l
+pub crash-good : (n i : ℕ) (l : List ℕ) → memberCrashNumber n i l ≡ 0 → Block n l
 unfolding memberCrashNumber
-crash-good n i l h = good n i l (no-number (memberNumber concur n i l) h .0) .block
+crash-good n i l h = good n i l (no-number (memberNumber n i l) h .0) .block
 
 -- What a call that is done leaves: the words of what its step makes.
 pub words-made : (n : ℕ) {k : ℕ} (before after : List ℕ) (m : Member) → k ≡ 0 → length after ≡ blockSize n → memberOf n (words after) ≡ m

@@ -57,8 +57,8 @@ pub fn take_reply(
     stored: Record,
     seals: u32,
 ) -> u32
-    ensures { λ r. ⌜ r ≡ replyNumber concur n member (now (block .entry)) (recordWithin n (recordIn newest)) (recordWithin n (recordIn stored)) seals ⌝ }
-    ensures { λ r. ⌜ now (block .exit) ≡ replyWords concur n member (now (block .entry)) (recordWithin n (recordIn newest)) (recordWithin n (recordIn stored)) seals ⌝ }
+    ensures { λ r. ⌜ r ≡ replyNumber n member (now (block .entry)) (recordWithin n (recordIn newest)) (recordWithin n (recordIn stored)) seals ⌝ }
+    ensures { λ r. ⌜ now (block .exit) ≡ replyWords n member (now (block .entry)) (recordWithin n (recordIn newest)) (recordWithin n (recordIn stored)) seals ⌝ }
 {
     let number = reply_number(block, n, member, newest, stored, seals);
     if number != 0 {
@@ -69,9 +69,9 @@ pub fn take_reply(
 }
 
 pub fn take_outcome(block: &mut [u32], n: u32, member: u32, result: u32) -> Outcome
-    ensures { λ r. ⌜ r .number ≡ outcomeNumber concur n member (now (block .entry)) result ⌝ }
-    ensures { λ r. ⌜ returnedIn r ≡ outcomeReturns concur n member (now (block .entry)) result ⌝ }
-    ensures { λ r. ⌜ now (block .exit) ≡ outcomeWords concur n member (now (block .entry)) result ⌝ }
+    ensures { λ r. ⌜ r .number ≡ outcomeNumber n member (now (block .entry)) result ⌝ }
+    ensures { λ r. ⌜ returnedIn r ≡ outcomeReturns n member (now (block .entry)) result ⌝ }
+    ensures { λ r. ⌜ now (block .exit) ≡ outcomeWords n member (now (block .entry)) result ⌝ }
     ensures { λ r. ⌜ (r .returned ≡ false → valueOf (words (r .value)) ≡ zeroValue) ⌝ }
 {
     let number = outcome_number(block, n, member, result);
@@ -93,8 +93,8 @@ pub fn take_outcome(block: &mut [u32], n: u32, member: u32, result: u32) -> Outc
 }
 
 pub fn crash(block: &mut [u32], n: u32, member: u32) -> u32
-    ensures { λ r. ⌜ r ≡ memberCrashNumber concur n member (now (block .entry)) ⌝ }
-    ensures { λ r. ⌜ now (block .exit) ≡ memberCrashWords concur n member (now (block .entry)) ⌝ }
+    ensures { λ r. ⌜ r ≡ memberCrashNumber n member (now (block .entry)) ⌝ }
+    ensures { λ r. ⌜ now (block .exit) ≡ memberCrashWords n member (now (block .entry)) ⌝ }
 {
     let number = crash_number(block, n, member);
     if number != 0 {

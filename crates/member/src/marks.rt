@@ -3,7 +3,7 @@ ghost use mathlib.Core.Path.{_≡_};
 ghost use mathlib.Core.Bool.{not, _&&_, _||_};
 ghost use lib.Dec.{eqb, leb};
 ghost use Rattle.lists.specs.Functions.{inside};
-ghost use Rattle.model.specs.Kinds.{concur, barred};
+ghost use Rattle.model.specs.Kinds.{barred};
 use records::is_barred;
 use records::is_numbered;
 
@@ -28,7 +28,7 @@ pub fn sound_marks(phase: u32, crashed: u32, halt: u32) -> bool
 
 // Is the operation of a member in phase 1 to 5 one that begin takes?
 pub fn sound_operation(member: u32, phase: u32, slot: u32, operation: u32) -> bool
-    ensures { λ r. ⌜ r ≡ (not (inside 5 phase) || leb 1 slot && leb 1 operation && not (barred concur member slot operation)) ⌝ }
+    ensures { λ r. ⌜ r ≡ (not (inside 5 phase) || leb 1 slot && leb 1 operation && not (barred member slot operation)) ⌝ }
 {
     if !is_numbered(phase, 5) {
         return true;

@@ -18,7 +18,7 @@ use records::is_numbered;
 
 // 1, 2, 3, 4: the board's size, the block, the member.
 fn member_number(block: &[u32], n: u32, member: u32) -> u32
-    ensures { λ r. ⌜ r ≡ memberNumber concur n member (now (block .entry)) ⌝ }
+    ensures { λ r. ⌜ r ≡ memberNumber n member (now (block .entry)) ⌝ }
 {
     if !is_numbered(n, 12) {
         return 1;
@@ -49,7 +49,7 @@ pub fn begin_number(block: &[u32], n: u32, member: u32, slot: u32, operation: u3
 
 // 1 to 4, and 10: the member is in another phase than the message needs, or has crashed.
 fn waiting_number(block: &[u32], n: u32, member: u32, phase: u32) -> u32
-    ensures { λ r. ⌜ r ≡ orElse (memberNumber concur n member (now (block .entry))) (cond (notWaiting phase (memberOf n (words (now (block .entry))))) 10 0) ⌝ }
+    ensures { λ r. ⌜ r ≡ orElse (memberNumber n member (now (block .entry))) (cond (notWaiting phase (memberOf n (words (now (block .entry))))) 10 0) ⌝ }
 {
     let number = member_number(block, n, member);
     if number != 0 {
@@ -72,7 +72,7 @@ pub fn reply_number(
     stored: Record,
     seals: u32,
 ) -> u32
-    ensures { λ r. ⌜ r ≡ replyNumber concur n member (now (block .entry)) (recordWithin n (recordIn newest)) (recordWithin n (recordIn stored)) seals ⌝ }
+    ensures { λ r. ⌜ r ≡ replyNumber n member (now (block .entry)) (recordWithin n (recordIn newest)) (recordWithin n (recordIn stored)) seals ⌝ }
 {
     let number = waiting_number(block, n, member, 1);
     if number != 0 {
@@ -91,7 +91,7 @@ pub fn reply_number(
 }
 
 pub fn outcome_number(block: &[u32], n: u32, member: u32, result: u32) -> u32
-    ensures { λ r. ⌜ r ≡ outcomeNumber concur n member (now (block .entry)) result ⌝ }
+    ensures { λ r. ⌜ r ≡ outcomeNumber n member (now (block .entry)) result ⌝ }
 {
     let number = waiting_number(block, n, member, 3);
     if number != 0 {
@@ -104,7 +104,7 @@ pub fn outcome_number(block: &[u32], n: u32, member: u32, result: u32) -> u32
 }
 
 pub fn crash_number(block: &[u32], n: u32, member: u32) -> u32
-    ensures { λ r. ⌜ r ≡ memberCrashNumber concur n member (now (block .entry)) ⌝ }
+    ensures { λ r. ⌜ r ≡ memberCrashNumber n member (now (block .entry)) ⌝ }
 {
     let number = member_number(block, n, member);
     if number != 0 {

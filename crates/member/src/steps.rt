@@ -63,7 +63,7 @@ pub fn block_size(n: usize) -> usize
 // The block of a member, by its numbers and its two message records.
 pub fn sound_block(block: &[u32], n: u32, member: u32) -> bool
     requires { ⌜ Block n (now block) ⌝ }
-    ensures { λ r. ⌜ r ≡ soundMember concur n member (memberOf n (words (now (block .entry)))) ⌝ }
+    ensures { λ r. ⌜ r ≡ soundMember n member (memberOf n (words (now (block .entry)))) ⌝ }
 {
     let at = layout(n as usize);
     let phase = block[PHASE_AT];

@@ -16,7 +16,7 @@ pub record BeginTaken (kind : Kind) (n phase crashed count i r t : ℕ) : Type 0
   pub member : inside n i ≡ true
   pub slot : inside n r ≡ true
   pub operation : isOperation t ≡ true
-  pub allowed : barred kind i r t ≡ false
+  pub allowed : barred i r t ≡ false
   pub isIdle : phase ≡ 0
   pub isUp : crashed ≡ 0
   pub room : count < kind .limit
@@ -25,7 +25,7 @@ pub begin-taken : (kind : Kind) (n phase crashed count i r t : ℕ) → beginAns
     → BeginTaken kind n phase crashed count i r t
 begin-taken kind n phase crashed count i r t h =
     let k = numbers-as-listed n .begins kind phase crashed count i r t .done .0 h in
-    let tested = allowed-tested kind i r t (k .2) in
+    let tested = allowed-tested i r t (k .2) in
     record {
       member = is-inside (k .0);
       slot = is-inside (k .1);

@@ -73,6 +73,59 @@ opened-inv n = record {
   };
 }
 
+-- Each phase of a deliver, on the board and in the reference.
+
+pub board-phase : (n : ℕ) (b : Board) (i p : ℕ) → b .members i .phase ≡ p
+    → boardDelivered n b i ≡ cond (eqb p 1) (submitTaken b i) (cond (eqb p 2) (replyTaken n b i)
+    (cond (eqb p 3) (commitTaken b i) (outcomeTaken b i (eqb p 4))))
+unfolding boardDelivered
+board-phase n b i p e = rw e
+
+ref-phase : (ref : Reference) (i p : ℕ) → ref .members i .phase ≡ p
+    → refDelivered ref i ≡ cond (eqb p 1) (refSubmit ref i) (cond (eqb p 2) (refReply ref i) (cond (eqb p 3) (refCommit ref i) (refEnd ref i)))
+unfolding refDelivered
+ref-phase ref i p e = rw e
+
+-- an aborted commit leaves the host as it was
+aborted : (b : Board) (i : ℕ) → marked (b .host (b .members i .slot)) i (b .members i .own (b .members i .slot)) ≡ false
+    → commitTaken b i ≡ withMember b i (judged (b .members i) false)
+unfolding commitTaken wins entryAfter storedAfter sentRecord withMember
+aborted b i lost =
+    let r = b .members i .slot in
+    rw lost (λ t. record {
+      members = put (b .members) i (judged (b .members i) false);
+      host = put-same (b .host) r t;
+      stored = put-same (b .stored) r t;
+    })
+
+commit-keeps : {n : ℕ} {b : Board} {ref : Reference} (inv : Inv n b ref) (i : ℕ) → b .members i .phase ≡ 3
+    → Inv n (commitTaken b i) (refCommit ref i)
+unfolding refCommit
+commit-keeps {n} {b} {ref} inv i e =
+    on (marked (b .host (b .members i .slot)) i (b .members i .own (b .members i .slot)))
+    (λ won. rw (over ∙ ap not won) (accept-keeps inv i e won))
+    (λ lost. rw (over ∙ ap not lost, aborted b i lost) (abort-keeps inv i e))
+  where
+    over : ref .members i .overtaken ≡ not (marked (b .host (b .members i .slot)) i (b .members i .own (b .members i .slot)))
+    over = inv .members i .mark (omega arith) (omega arith)
+
+deliver-keeps : {n : ℕ} {b : Board} {ref : Reference} (inv : Inv n b ref) (i : ℕ) → (b .members i .phase ≡ 0 → ⊥)
+    → Inv n (boardDelivered n b i) (refDelivered ref i)
+unfolding refReply refEnd outcomeTaken outcome
+deliver-keeps {n} {b} {ref} inv i z =
+    by-phase p z (inv .members i .fine)
+    (λ e. rw (board-phase n b i 1 e, ref-phase ref i 1 (same e)) (submit-keeps inv i e))
+    (λ e. rw (board-phase n b i 2 e, ref-phase ref i 2 (same e)) (reply-keeps inv i e))
+    (λ e. rw (board-phase n b i 3 e, ref-phase ref i 3 (same e)) (commit-keeps inv i e))
+    (λ e. rw (board-phase n b i 4 e, ref-phase ref i 4 (same e)) (completed-keeps inv i e))
+    (λ e. rw (board-phase n b i 5 e, ref-phase ref i 5 (same e)) (dropped-keeps inv i e))
+  where
+    p : ℕ
+    p = b .members i .phase
+
+    same : {q : ℕ} → b .members i .phase ≡ q → ref .members i .phase ≡ q
+    same e = sym (inv .members i .phase) ∙ e
+
 module _ (kind : Kind) where
   -- The answers are the same, since the members' phases, marks and counts are.
 
@@ -83,63 +136,10 @@ module _ (kind : Kind) where
   same-answer inv (deliver i) = let m = inv .members i in rw (m .phase, m .crashed)
   same-answer inv (crash i) = let m = inv .members i in rw (m .phase, m .crashed)
 
-  -- Each phase of a deliver, on the board and in the reference.
-
-  pub board-phase : (n : ℕ) (b : Board) (i p : ℕ) → b .members i .phase ≡ p
-      → boardDelivered kind n b i ≡ cond (eqb p 1) (submitTaken b i) (cond (eqb p 2) (replyTaken n b i)
-      (cond (eqb p 3) (commitTaken kind b i) (outcomeTaken b i (eqb p 4))))
-  unfolding boardDelivered
-  board-phase n b i p e = rw e
-
-  ref-phase : (ref : Reference) (i p : ℕ) → ref .members i .phase ≡ p
-      → refDelivered ref i ≡ cond (eqb p 1) (refSubmit ref i) (cond (eqb p 2) (refReply ref i) (cond (eqb p 3) (refCommit ref i) (refEnd ref i)))
-  unfolding refDelivered
-  ref-phase ref i p e = rw e
-
-  -- an aborted commit leaves the host as it was
-  aborted : (b : Board) (i : ℕ) → marked (b .host (b .members i .slot)) i (b .members i .own (b .members i .slot)) ≡ false
-      → commitTaken kind b i ≡ withMember b i (judged (b .members i) false)
-  unfolding commitTaken wins entryAfter storedAfter sentRecord withMember
-  aborted b i lost =
-      let r = b .members i .slot in
-      rw lost (λ t. record {
-        members = put (b .members) i (judged (b .members i) false);
-        host = put-same (b .host) r t;
-        stored = put-same (b .stored) r t;
-      })
-
-  commit-keeps : {n : ℕ} {b : Board} {ref : Reference} (inv : Inv n b ref) (i : ℕ) → b .members i .phase ≡ 3
-      → Inv n (commitTaken kind b i) (refCommit ref i)
-  unfolding refCommit
-  commit-keeps {n} {b} {ref} inv i e =
-      on (marked (b .host (b .members i .slot)) i (b .members i .own (b .members i .slot)))
-      (λ won. rw (over ∙ ap not won) (accept-keeps inv i e won kind))
-      (λ lost. rw (over ∙ ap not lost, aborted b i lost) (abort-keeps inv i e))
-    where
-      over : ref .members i .overtaken ≡ not (marked (b .host (b .members i .slot)) i (b .members i .own (b .members i .slot)))
-      over = inv .members i .mark (omega arith) (omega arith)
-
-  deliver-keeps : {n : ℕ} {b : Board} {ref : Reference} (inv : Inv n b ref) (i : ℕ) → (b .members i .phase ≡ 0 → ⊥)
-      → Inv n (boardDelivered kind n b i) (refDelivered ref i)
-  unfolding refReply refEnd outcomeTaken outcome
-  deliver-keeps {n} {b} {ref} inv i z =
-      by-phase p z (inv .members i .fine)
-      (λ e. rw (board-phase n b i 1 e, ref-phase ref i 1 (same e)) (submit-keeps inv i e))
-      (λ e. rw (board-phase n b i 2 e, ref-phase ref i 2 (same e)) (reply-keeps inv i e))
-      (λ e. rw (board-phase n b i 3 e, ref-phase ref i 3 (same e)) (commit-keeps inv i e))
-      (λ e. rw (board-phase n b i 4 e, ref-phase ref i 4 (same e)) (completed-keeps inv i e))
-      (λ e. rw (board-phase n b i 5 e, ref-phase ref i 5 (same e)) (dropped-keeps inv i e))
-    where
-      p : ℕ
-      p = b .members i .phase
-
-      same : {q : ℕ} → b .members i .phase ≡ q → ref .members i .phase ≡ q
-      same e = sym (inv .members i .phase) ∙ e
-
   -- A call that is answered 0, and any call.
 
   done-keeps : {n : ℕ} {b : Board} {ref : Reference} (inv : Inv n b ref) (call : Call) → answerOf kind n b call ≡ 0
-      → Inv n (done kind n b call) (refDone ref call)
+      → Inv n (done n b call) (refDone ref call)
   unfolding answerOf done refDone
   done-keeps {n} {b} inv (begin i r t v) h =
       let m = b .members i in begin-keeps inv i r t v (begin-taken kind n (m .phase) (m .crashed) (m .own r) i r t h)

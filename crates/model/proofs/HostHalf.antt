@@ -10,7 +10,7 @@ use borrow.Author.Tests.{eq-eqb, ne-eqb, eqb-true, eqb-false}
 use Rattle.lists.specs.Functions.{put, inside, within}
 use Rattle.lists.proofs.Functions.{on, both, apart, first, second, fails, put-same, put-all, inside-low}
 use Rattle.model.specs.Records.{Rec, read, write, opening}
-use Rattle.model.specs.Kinds.{Kind, isOperation, barred, becomesStored}
+use Rattle.model.specs.Kinds.{isOperation, barred, becomesStored}
 use Rattle.model.specs.Host.{Entry, submitted, wins, entryAfter, storedAfter}
 use Rattle.model.specs.Board.{opened, openingEntry}
 use Rattle.model.specs.Published.{
@@ -92,23 +92,23 @@ pub not-same : (a b : Id) → (a ≡ b → ⊥) → sameId a b ≡ false
 not-same a b d = on (sameId a b) (λ q. absurd (d (same-eq a b q))) (λ q. q)
 
 -- what fits: a member from 1 on, a slot of the n, and a type that number 7 leaves one choice of
-module _ (kind : Kind) (n : ℕ) (a : Id) (f : fits kind n a ≡ true) where
+module _ (n : ℕ) (a : Id) (f : fits n a ≡ true) where
   pub fit-parts : (inside n (a .client) ≡ true) × (inside n (a .reg) ≡ true) × (isOperation (a .operation) ≡ true)
-      × (barred kind (a .client) (a .reg) (a .operation) ≡ false)
+      × (barred (a .client) (a .reg) (a .operation) ≡ false)
   unfolding fits
   fit-parts = on (inside n (a .client))
       (λ p. on (inside n (a .reg))
       (λ q. on (isOperation (a .operation))
-      (λ t. on (barred kind (a .client) (a .reg) (a .operation))
+      (λ t. on (barred (a .client) (a .reg) (a .operation))
       (λ z. absurd (apart f (rw (p, q, t, z))))
       (λ z. (p, q, t, z)))
       (λ t. absurd (apart f (rw (p, q, t)))))
       (λ q. absurd (apart f (rw (p, q)))))
       (λ p. absurd (apart f (rw p)))
 
-one-type : (kind : Kind) (i r t : ℕ) → isOperation t ≡ true → barred kind i r t ≡ false → t ≡ cond (eqb i r) write read
+one-type : (i r t : ℕ) → isOperation t ≡ true → barred i r t ≡ false → t ≡ cond (eqb i r) write read
 unfolding isOperation barred
-one-type kind i r t p q = on (eqb t write)
+one-type i r t p q = on (eqb t write)
     (λ w. on (eqb i r)
     (λ e. rw e (eqb-true t write w))
     (λ e. let z : true ≡ false = rw (w, e) at q in absurd (apart refl z)))
@@ -134,9 +134,9 @@ and-true false = refl
 abbrev marks : Entry → Id → Bool
 marks e a = eqb (e .submitMember) (a .client) && eqb (e .submitCount) (a .count)
 
-module _ (kind : Kind) (n : ℕ) (e : Entry) (a b : Id) where
+module _ (n : ℕ) (e : Entry) (a b : Id) where
   -- of what fits, one slot's mark names one id
-  marks-one : fits kind n a ≡ true → fits kind n b ≡ true → a .reg ≡ b .reg → marks e b ≡ true → marks e a ≡ sameId a b
+  marks-one : fits n a ≡ true → fits n b ≡ true → a .reg ≡ b .reg → marks e b ≡ true → marks e a ≡ sameId a b
   marks-one f g regs m = on (sameId a b)
       (λ q. ap (marks e) (same-eq a b q) ∙ m ∙ sym q)
       (λ q. on (marks e a) (λ p. absurd (apart (ap (sameId a) (sym (equal p)) ∙ same-self a) q)) (λ p. p ∙ sym q))
@@ -151,9 +151,9 @@ module _ (kind : Kind) (n : ℕ) (e : Entry) (a b : Id) where
       equal p =
           let client = sym (named a p .0) ∙ named b m .0 in
           let count = sym (named a p .1) ∙ named b m .1 in
-          let operation = one-type kind (a .client) (a .reg) (a .operation) (fit-parts kind n a f .2) (fit-parts kind n a f .3)
+          let operation = one-type (a .client) (a .reg) (a .operation) (fit-parts n a f .2) (fit-parts n a f .3)
           ∙ ap₂ (λ i r. cond (eqb i r) write read) client regs
-          ∙ sym (one-type kind (b .client) (b .reg) (b .operation) (fit-parts kind n b g .2) (fit-parts kind n b g .3)) in
+          ∙ sym (one-type (b .client) (b .reg) (b .operation) (fit-parts n b g .2) (fit-parts n b g .3)) in
           λ i. record { client = client i; count = count i; operation = operation i; reg = regs i }
 
   -- and an id that it does not name is no other's
@@ -163,10 +163,10 @@ module _ (kind : Kind) (n : ℕ) (e : Entry) (a b : Id) where
       (λ q. rw q (and-true (marks e a)))
 
 -- no id is (0, 0)
-marks-blank : (kind : Kind) (n : ℕ) (a : Id) (newest : Rec) → fits kind n a ≡ true
+marks-blank : (n : ℕ) (a : Id) (newest : Rec) → fits n a ≡ true
     → marks (record { submitMember = 0; submitCount = 0; newest = newest }) a ≡ false
-marks-blank kind n a newest f =
-    let p : 1 ≤ a .client = inside-low n (a .client) (fit-parts kind n a f .0) in
+marks-blank n a newest f =
+    let p : 1 ≤ a .client = inside-low n (a .client) (fit-parts n a f .0) in
     rw (ne-eqb 0 (a .client) (λ z. omega arith))
 
 -- The half beside the server with document 01's lines.
@@ -193,26 +193,26 @@ less true false true = refl
 less true false false = refl
 less false q s = refl
 
-record Beside (kind : Kind) (n : ℕ) (h : Half) (s : Server) : Type 0 where
+record Beside (n : ℕ) (h : Half) (s : Server) : Type 0 where
   stored : (r : ℕ) → inside n r ≡ true → s .x r ≡ h .stored r
   newest : (r : ℕ) → inside n r ≡ true → s .lso r ≡ h .host r .newest
-  mark : (r : ℕ) (a : Id) → a .reg ≡ r → fits kind n a ≡ true → (s .pnd r a && not (s .abrt r a)) ≡ marks (h .host r) a
+  mark : (r : ℕ) (a : Id) → a .reg ≡ r → fits n a ≡ true → (s .pnd r a && not (s .abrt r a)) ≡ marks (h .host r) a
 
-beside-opened : (kind : Kind) (n : ℕ) → Beside kind n (halfOpened n) serverOpened
+beside-opened : (n : ℕ) → Beside n (halfOpened n) serverOpened
 unfolding halfOpened opened serverOpened within openingEntry
-beside-opened kind n = record {
+beside-opened n = record {
   stored = λ r p. rw p;
   newest = λ r p. rw p;
-  mark = λ r a e f. let p : inside n r ≡ true = rw e at (fit-parts kind n a f .1) in rw p (sym (marks-blank kind n a (opening r) f));
+  mark = λ r a e f. let p : inside n r ≡ true = rw e at (fit-parts n a f .1) in rw p (sym (marks-blank n a (opening r) f));
 }
 
-module _ (kind : Kind) (n : ℕ) (h : Half) (s : Server) (b : Beside kind n h s) where
-  module _ (id : Id) (fit : fits kind n id ≡ true) where
+module _ (n : ℕ) (h : Half) (s : Server) (b : Beside n h s) where
+  module _ (id : Id) (fit : fits n id ≡ true) where
     submit-answer : notedAnswer s (submit id) ≡ halfAnswer h (submit id)
     unfolding notedAnswer line56 halfAnswer
-    submit-answer = let p = fit-parts kind n id fit .1 in ap₂ submitR (b .stored (id .reg) p) (b .newest (id .reg) p)
+    submit-answer = let p = fit-parts n id fit .1 in ap₂ submitR (b .stored (id .reg) p) (b .newest (id .reg) p)
 
-    submit-beside : Beside kind n (halfAfter kind h (submit id)) (notedAfter s (submit id))
+    submit-beside : Beside n (halfAfter h (submit id)) (notedAfter s (submit id))
     unfolding halfAfter notedAfter line54noted line55 submitted put
     submit-beside =
         let e = submitted (h .host (id .reg)) (id .client) (id .count) in
@@ -223,12 +223,12 @@ module _ (kind : Kind) (n : ℕ) (h : Half) (s : Server) (b : Beside kind n h s)
               (λ r d. b .newest r);
           mark = λ r a at f. on (eqb r (id .reg))
               (λ p. rw p (newly (s .pnd (id .reg) a) (sameId a id)
-              ∙ sym (marks-one kind n e a id f fit (at ∙ eqb-true r (id .reg) p)
+              ∙ sym (marks-one n e a id f fit (at ∙ eqb-true r (id .reg) p)
               (both (eq-eqb (id .client) (id .client) refl) (eq-eqb (id .count) (id .count) refl)))))
               (λ p. rw p (b .mark r a at f));
         }
 
-  module _ (op : Rec) (fit : fits kind n (idOf op) ≡ true) where
+  module _ (op : Rec) (fit : fits n (idOf op) ≡ true) where
     verdict : line59noted op s ≡ not (wins (h .host (op .slot)) op)
     unfolding line59noted wins idOf
     verdict = refused (s .pnd (op .slot) (idOf op)) (s .abrt (op .slot) (idOf op)) ∙ ap not (b .mark (op .slot) (idOf op) refl fit)
@@ -239,9 +239,9 @@ module _ (kind : Kind) (n : ℕ) (h : Half) (s : Server) (b : Beside kind n h s)
 
     -- the marks after it, e being the slot's entry then
     decided : (e : Entry)
-        → ((a : Id) → a .reg ≡ op .slot → fits kind n a ≡ true
+        → ((a : Id) → a .reg ≡ op .slot → fits n a ≡ true
         → (marks (h .host (op .slot)) a && not (sameId a (idOf op))) ≡ marks e a)
-        → (r : ℕ) (a : Id) → a .reg ≡ r → fits kind n a ≡ true
+        → (r : ℕ) (a : Id) → a .reg ≡ r → fits n a ≡ true
         → (line58 op s .pnd r a && not (s .abrt r a)) ≡ marks (put (h .host) (op .slot) e r) a
     unfolding line58 idOf put
     decided e same r a at f = on (eqb r (op .slot))
@@ -251,7 +251,7 @@ module _ (kind : Kind) (n : ℕ) (h : Half) (s : Server) (b : Beside kind n h s)
         ∙ same a (at ∙ z) f))
         (λ p. rw p (b .mark r a at f))
 
-    commit-beside : Beside kind n (halfAfter kind h (commit op)) (notedAfter s (commit op))
+    commit-beside : Beside n (halfAfter h (commit op)) (notedAfter s (commit op))
     unfolding halfAfter notedAfter line58 line512writes line513 entryAfter storedAfter becomesStored idOf wins put
     commit-beside =
         let r = op .slot in
@@ -264,34 +264,34 @@ module _ (kind : Kind) (n : ℕ) (h : Half) (s : Server) (b : Beside kind n h s)
               (λ q. rw q (b .stored j w ∙ sym (ap (λ f. f j) (put-same (h .stored) r))));
           newest = λ j w. on (eqb j r) (λ z. rw z) (λ z. rw z (b .newest j w));
           mark = decided blank (λ a at f.
-              rw (marks-one kind n e a (idOf op) f fit at t, marks-blank kind n a op f) (none-both (sameId a (idOf op))));
+              rw (marks-one n e a (idOf op) f fit at t, marks-blank n a op f) (none-both (sameId a (idOf op))));
         }))
         (λ t. rw (verdict, t) (record {
           stored = λ j w. b .stored j w ∙ sym (ap (λ f. f j) (put-same (h .stored) r));
           newest = λ j w. b .newest j w ∙ sym (ap (λ f. f j .newest) (put-same (h .host) r));
-          mark = decided e (λ a at f. marks-none kind n e a (idOf op) t);
+          mark = decided e (λ a at f. marks-none n e a (idOf op) t);
         }))
 
-message-answer : (kind : Kind) (n : ℕ) (h : Half) (s : Server) → Beside kind n h s → (message : ToServer)
-    → fits kind n (idIn message) ≡ true → notedAnswer s message ≡ halfAnswer h message
+message-answer : (n : ℕ) (h : Half) (s : Server) → Beside n h s → (message : ToServer)
+    → fits n (idIn message) ≡ true → notedAnswer s message ≡ halfAnswer h message
 unfolding idIn
-message-answer kind n h s b (submit id) f = submit-answer kind n h s b id f
-message-answer kind n h s b (commit op) f = commit-answer kind n h s b op f
+message-answer n h s b (submit id) f = submit-answer n h s b id f
+message-answer n h s b (commit op) f = commit-answer n h s b op f
 
-message-beside : (kind : Kind) (n : ℕ) (h : Half) (s : Server) → Beside kind n h s → (message : ToServer)
-    → fits kind n (idIn message) ≡ true → Beside kind n (halfAfter kind h message) (notedAfter s message)
+message-beside : (n : ℕ) (h : Half) (s : Server) → Beside n h s → (message : ToServer)
+    → fits n (idIn message) ≡ true → Beside n (halfAfter h message) (notedAfter s message)
 unfolding idIn
-message-beside kind n h s b (submit id) f = submit-beside kind n h s b id f
-message-beside kind n h s b (commit op) f = commit-beside kind n h s b op f
+message-beside n h s b (submit id) f = submit-beside n h s b id f
+message-beside n h s b (commit op) f = commit-beside n h s b op f
 
-half-noted : (kind : Kind) (n : ℕ) (messages : List ToServer) (h : Half) (s : Server) → Beside kind n h s
-    → allFit kind n messages ≡ true → notedAnswers s messages ≡ halfAnswers kind h messages
+half-noted : (n : ℕ) (messages : List ToServer) (h : Half) (s : Server) → Beside n h s
+    → allFit n messages ≡ true → notedAnswers s messages ≡ halfAnswers h messages
 unfolding allFit notedAnswers halfAnswers
-half-noted kind n [] h s b f = refl
-half-noted kind n (message ∷ messages) h s b f =
-    let one = first (fits kind n (idIn message)) (allFit kind n messages) f in
-    let rest = second (fits kind n (idIn message)) (allFit kind n messages) f in
-    ap₂ _∷_ (message-answer kind n h s b message one) (half-noted kind n messages _ _ (message-beside kind n h s b message one) rest)
+half-noted n [] h s b f = refl
+half-noted n (message ∷ messages) h s b f =
+    let one = first (fits n (idIn message)) (allFit n messages) f in
+    let rest = second (fits n (idIn message)) (allFit n messages) f in
+    ap₂ _∷_ (message-answer n h s b message one) (half-noted n messages _ _ (message-beside n h s b message one) rest)
 
 -- Document 01's 5.4 and 5.9 beside the printed ones: s is the server with the printed lines, t with document 01's.
 
@@ -383,9 +383,9 @@ opened-printed : Printed noneWaiting serverOpened serverOpened
 unfolding serverOpened noneWaiting
 opened-printed = record { x = refl; lso = refl; pnd = refl; pending = λ r a at. refl; abrt = λ r a at w. refl }
 
-pub half-as-published : (kind : Kind) (n : ℕ) (messages : List ToServer) → HalfAsPublished kind n messages
-half-as-published kind n messages =
-    let noted = half-noted kind n messages (halfOpened n) serverOpened (beside-opened kind n) in
+pub half-as-published : (n : ℕ) (messages : List ToServer) → HalfAsPublished n messages
+half-as-published n messages =
+    let noted = half-noted n messages (halfOpened n) serverOpened (beside-opened n) in
     record {
       noted = noted;
       printed = λ f e. noted-printed messages noneWaiting serverOpened serverOpened opened-printed e ∙ noted f;
@@ -393,28 +393,28 @@ half-as-published kind n messages =
 
 -- The sample, and the differences.
 
-pub sample-holds : (kind : Kind) → SampleHolds kind
+pub sample-holds : SampleHolds
 unfolding allFit idIn fits inside isOperation barred sample onSlot1 eachOnce noneWaiting idOf sameId
     halfAnswers halfAnswer halfAfter halfOpened opened openingEntry within put submitted wins entryAfter storedAfter becomesStored
     sampleAnswers
     serverAnswers answerTo received serverOpened line54 line55 line56 line58 line59 line512writes line513
-sample-holds kind = record {
+sample-holds = record {
   fit = refl;
   once = refl;
   answers = refl;
   server = refl;
 }
 
-pub half-differs : (kind : Kind) (n : ℕ) (op : Rec) → fits kind n (idOf op) ≡ true → HalfDiffers kind n op
+pub half-differs : (n : ℕ) (op : Rec) → fits n (idOf op) ≡ true → HalfDiffers n op
 unfolding unasked repeated resubmitted idOf
     halfAnswers halfAnswer halfAfter halfOpened opened openingEntry within put submitted wins entryAfter storedAfter
     serverAnswers answerTo received serverOpened line54 line55 line56 line58 line59 line512writes line513
-half-differs kind n op f =
+half-differs n op f =
     let member = eq-eqb (op .member) (op .member) refl in
     let count = eq-eqb (op .count) (op .count) refl in
     let at = eq-eqb (op .slot) (op .slot) refl in
-    let p : inside n (op .slot) ≡ true = fit-parts kind n (idOf op) f .1 in
-    let low : 1 ≤ op .member = inside-low n (op .member) (fit-parts kind n (idOf op) f .0) in
+    let p : inside n (op .slot) ≡ true = fit-parts n (idOf op) f .1 in
+    let low : 1 ≤ op .member = inside-low n (op .member) (fit-parts n (idOf op) f .0) in
     let unmarked : eqb 0 (op .member) ≡ false = ne-eqb 0 (op .member) (λ z. omega arith) in
     record {
       unaskedServer = refl;

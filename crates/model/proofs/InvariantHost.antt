@@ -10,7 +10,7 @@ use Rattle.lists.specs.Functions.{put, inside}
 use Rattle.lists.proofs.Functions.{on, first, second, apart, put-at, put-off, put-same, put-all, put-both, inside-low}
 use Rattle.model.specs.Rows.{Row, Matrix}
 use Rattle.model.specs.Records.{Value, Rec, read, write}
-use Rattle.model.specs.Kinds.{Kind, becomesStored}
+use Rattle.model.specs.Kinds.{becomesStored}
 use Rattle.model.specs.Member.{Member, answered, judged}
 use Rattle.model.specs.Host.{Entry, submitted, wins, entryAfter, storedAfter}
 use Rattle.model.specs.Board.{Board, submitTaken, sentRecord, commitTaken}
@@ -348,9 +348,9 @@ module _ {n : ℕ} {b : Board} {ref : Reference} (inv : Inv n b ref) (i : ℕ) (
         history = operationOf i (ref .members i) ∷ ref .history;
       }
 
-  pub accept-keeps : (kind : Kind) → Inv n (commitTaken kind b i) (refAccept ref i)
+  pub accept-keeps : Inv n (commitTaken b i) (refAccept ref i)
   unfolding commitTaken wins entryAfter storedAfter becomesStored sentRecord
-  accept-keeps kind = rw won (on (eqb (m₃ .operation) write)
+  accept-keeps = rw won (on (eqb (m₃ .operation) write)
       (λ p. rw (p, ref-accept true p) (accepted-keeps sent (put (ref .values) r₃ (ref .members i .value)) history
       (new-slots sent (ref .members i .value) (slot-written (eqb-true (m₃ .operation) write p)))))
       (λ p. rw (p, ref-accept false p) (accepted-keeps (b .stored r₃) (ref .values) history

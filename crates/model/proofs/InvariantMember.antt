@@ -12,7 +12,6 @@ use Rattle.lists.proofs.Functions.{on, put-at, put-off, put-all, put-both, each
 use Rattle.model.specs.Rows.{Row, Matrix, larger, comparable}
 use Rattle.model.specs.Records.{Value, Rec, read, write}
 use Rattle.model.specs.Kinds.{Kind, barred}
-use Rattle.model.specs.Member
 use Rattle.model.specs.Member.{Member, begun, replied, passed, ownRecord, joined, haltNumber, completed, dropped, crashedOf, judged, moved, tookOver}
 use Rattle.model.specs.Member.{check21, check22, check23, check24, check25, check26, check27}
 use Rattle.model.specs.ReplyChecks.{AllPass}
@@ -23,6 +22,7 @@ use Rattle.model.proofs.Rows.{larger-either}
 use Rattle.model.proofs.Order.{_≼_, Ordered, ≼-refl, ≼-raised, ≼-matrixBelow, ordered-comparable, larger-above}
 use Rattle.model.proofs.Answers.{BeginTaken}
 use Rattle.model.proofs.Invariant.{Tops, countOn, marked, Running, Replied, Current, Committed, Extends, Accepted, MemberInv, Inv}
+use Rattle.model.specs.Member
 
 -- One member touched, with the counts that the tops have for it kept.
 pub touched : {n : ℕ} {b : Board} {ref : Reference} (inv : Inv n b ref) (i : ℕ) (m : Member) (f : RefMember)
@@ -75,13 +75,13 @@ stepped p h one two noted e′ s′ grow old running low high mark replied curre
 -- Begin.
 
 -- a slot and type that number 7 lets through
-allowed-writes : (kind : Kind) (i r t : ℕ) → barred kind i r t ≡ false → t ≡ write → r ≡ i
+allowed-writes : (i r t : ℕ) → barred i r t ≡ false → t ≡ write → r ≡ i
 unfolding barred
-allowed-writes kind i r t h e = sym (eqb-true i r (not-false _ (rw (eq-eqb t write e) at h)))
+allowed-writes i r t h e = sym (eqb-true i r (not-false _ (rw (eq-eqb t write e) at h)))
 
-allowed-reads : (kind : Kind) (i r t : ℕ) → barred kind i r t ≡ false → (t ≡ write → ⊥) → r ≡ i → ⊥
+allowed-reads : (i r t : ℕ) → barred i r t ≡ false → (t ≡ write → ⊥) → r ≡ i → ⊥
 unfolding barred
-allowed-reads kind i r t h d e = eqb-false i r (rw (ne-eqb t write d) at h) (sym e)
+allowed-reads i r t h d e = eqb-false i r (rw (ne-eqb t write d) at h) (sym e)
 
 pub begin-keeps : {kind : Kind} {n : ℕ} {b : Board} {ref : Reference} (inv : Inv n b ref) (i r t : ℕ) (v : Value)
     → BeginTaken kind n (b .members i .phase) (b .members i .crashed) (b .members i .own r) i r t
@@ -102,8 +102,8 @@ begin-keeps {kind} {n} {b} {ref} inv i r t v taken =
       running = λ h. record {
         member = taken .member;
         slotIn = taken .slot;
-        writes = allowed-writes kind i r t (taken .allowed);
-        reads = allowed-reads kind i r t (taken .allowed);
+        writes = allowed-writes i r t (taken .allowed);
+        reads = allowed-reads i r t (taken .allowed);
       };
       fresh = λ e. refl;
       mark = λ g h. absurd (omega arith);

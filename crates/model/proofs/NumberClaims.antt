@@ -113,20 +113,20 @@ not-operation : (t : ℕ) → (t ≡ 1 → ⊥) → (t ≡ 2 → ⊥) → isOper
 unfolding isOperation
 not-operation t a b = rw (ne-eqb t 1 a, ne-eqb t 2 b)
 
-pub record Tested (kind : Kind) (i r t : ℕ) (refused : Bool) : Type 0 where
+pub record Tested (i r t : ℕ) (refused : Bool) : Type 0 where
   pub operation : isOperation t ≡ true
-  pub seven : barred kind i r t ≡ refused
+  pub seven : barred i r t ≡ refused
 
-barred-tested : (kind : Kind) (i r t : ℕ) → Barred i r t → Tested kind i r t true
+barred-tested : (i r t : ℕ) → Barred i r t → Tested i r t true
 unfolding isOperation barred
-barred-tested kind i r t b = ⊎-elim
+barred-tested i r t b = ⊎-elim
     (λ h. record { operation = rw (h .0); seven = rw (h .0, ne-eqb i r (h .1)) })
     (λ h. record { operation = rw (h .0); seven = rw (h .0, eq-eqb i r (h .1)) })
     b
 
-pub allowed-tested : (kind : Kind) (i r t : ℕ) → Allowed i r t → Tested kind i r t false
+pub allowed-tested : (i r t : ℕ) → Allowed i r t → Tested i r t false
 unfolding isOperation barred
-allowed-tested kind i r t b = ⊎-elim
+allowed-tested i r t b = ⊎-elim
     (λ h. record { operation = rw (h .0); seven = rw (h .0, eq-eqb i r (h .1)) })
     (λ h. record { operation = rw (h .0); seven = rw (h .0, ne-eqb i r (h .1)) })
     b
@@ -181,8 +181,8 @@ module _ (kind : Kind) (n phase crashed count i r t : ℕ) where
   begin-gives : Give (beginAnswer kind n phase crashed count i r t) begin-rows
   unfolding Give beginAnswer
   begin-gives =
-      let bars = barred-tested kind i r t in
-      let allows = allowed-tested kind i r t in
+      let bars = barred-tested i r t in
+      let allows = allowed-tested i r t in
       (λ g. rw (not-inside n i g))
       and (λ g. rw (is-inside (g .0), not-inside n r (g .1)))
       and (λ g. rw (is-inside (g .0), is-inside (g .1), not-operation t (g .2) (g .3)))

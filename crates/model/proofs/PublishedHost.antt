@@ -60,46 +60,46 @@ use Rattle.model.proofs.Answers.{begin-taken, deliver-taken}
 use Rattle.model.proofs.HostHalf.{same-self, not-same, or-false, and-true, none-both, half-as-published}
 
 -- What member k has sent and not yet committed: between submit and commit its operation, and else nothing. A halted one sends no more.
-record Sends (kind : Kind) (n k : ℕ) (m : Member) (waiting : Id → Bool) : Type 0 where
-  fit : (m .phase ≡ 0 → ⊥) → fits kind n (submitOf k m) ≡ true
+record Sends (n k : ℕ) (m : Member) (waiting : Id → Bool) : Type 0 where
+  fit : (m .phase ≡ 0 → ⊥) → fits n (submitOf k m) ≡ true
   waits : (m .phase ≡ 6 → ⊥) → (a : Id) → a .client ≡ k
       → waiting a ≡ ((eqb (m .phase) 2 || eqb (m .phase) 3) && sameId a (submitOf k m))
 
-abbrev AllSend : Kind → ℕ → Board → (Id → Bool) → Type 0
-AllSend kind n b waiting = (k : ℕ) → Sends kind n k (b .members k) waiting
+abbrev AllSend : ℕ → Board → (Id → Bool) → Type 0
+AllSend n b waiting = (k : ℕ) → Sends n k (b .members k) waiting
 
 -- Messages of a run from board b on, and the answers that its members get: the half gives the same.
 abbrev halfOf : Board → Half
 halfOf b = record { host = b .host; stored = b .stored }
 
-record Talk (kind : Kind) (n : ℕ) (b : Board) (waiting : Id → Bool) (messages : List ToServer) (answers : List FromServer) : Type 0 where
-  fit : allFit kind n messages ≡ true
+record Talk (n : ℕ) (b : Board) (waiting : Id → Bool) (messages : List ToServer) (answers : List FromServer) : Type 0 where
+  fit : allFit n messages ≡ true
   once : eachOnce waiting messages ≡ true
-  same : halfAnswers kind (halfOf b) messages ≡ answers
+  same : halfAnswers (halfOf b) messages ≡ answers
 
 -- A step to the board `next`, with what it sends the host and the answer that the member gets; and what is said after it.
-record Step (kind : Kind) (n : ℕ) (b : Board) (waiting : Id → Bool) (next : Board) (sent : List ToServer) (got : List FromServer) :
+record Step (n : ℕ) (b : Board) (waiting : Id → Bool) (next : Board) (sent : List ToServer) (got : List FromServer) :
     Type 0 where
   left : Id → Bool
-  sends : AllSend kind n next left
-  talk : (messages : List ToServer) (answers : List FromServer) → Talk kind n next left messages answers
-      → Talk kind n b waiting (sent ++ messages) (got ++ answers)
+  sends : AllSend n next left
+  talk : (messages : List ToServer) (answers : List FromServer) → Talk n next left messages answers
+      → Talk n b waiting (sent ++ messages) (got ++ answers)
 
 -- a call answered 0
-abbrev StepBy : Kind → ℕ → Board → (Id → Bool) → Call → Type 0
-StepBy kind n b waiting call = let next = done kind n b call in Step kind n b waiting next (sentBy b call) (gotBy b next call)
+abbrev StepBy : ℕ → Board → (Id → Bool) → Call → Type 0
+StepBy n b waiting call = let next = done n b call in Step n b waiting next (sentBy b call) (gotBy b next call)
 
-module _ (kind : Kind) (n : ℕ) (b : Board) (waiting : Id → Bool) (h : AllSend kind n b waiting) (i : ℕ) where
+module _ (kind : Kind) (n : ℕ) (b : Board) (waiting : Id → Bool) (h : AllSend n b waiting) (i : ℕ) where
   -- one member's state replaced, and nothing sent
-  one-member : (m : Member) → Sends kind n i m waiting → Step kind n b waiting (withMember b i m) [] []
+  one-member : (m : Member) → Sends n i m waiting → Step n b waiting (withMember b i m) [] []
   unfolding withMember
   one-member m g = record {
     left = waiting;
-    sends = put-all (λ k m. Sends kind n k m waiting) (b .members) i m g (λ k d. h k);
+    sends = put-all (λ k m. Sends n k m waiting) (b .members) i m g (λ k d. h k);
     talk = λ messages answers w. record { fit = w .fit; once = w .once; same = w .same };
   }
 
-  begin-step : (r t : ℕ) (v : Value) → answerOf kind n b (begin i r t v) ≡ 0 → StepBy kind n b waiting (begin i r t v)
+  begin-step : (r t : ℕ) (v : Value) → answerOf kind n b (begin i r t v) ≡ 0 → StepBy n b waiting (begin i r t v)
   unfolding answerOf done boardBegun begun sentBy gotBy submitOf fits
   begin-step r t v e =
       let m = b .members i in
@@ -109,14 +109,14 @@ module _ (kind : Kind) (n : ℕ) (b : Board) (waiting : Id → Bool) (h : AllSen
         waits = λ d a at. rw (c .isIdle) at (h i .waits (λ z. omega arith) a at);
       })
 
-  crash-step : StepBy kind n b waiting (crash i)
+  crash-step : StepBy n b waiting (crash i)
   unfolding done boardCrashed crashedOf sentBy gotBy submitOf
   crash-step = one-member (crashedOf (b .members i)) (record { fit = h i .fit; waits = h i .waits })
 
   -- phase 1, the submit
   submit-step : b .members i .phase ≡ 1
       → let m = submitTaken b i .members i in
-      Step kind n b waiting (submitTaken b i) (submit (submitOf i (b .members i)) ∷ []) (submitR (m .second) (m .first) ∷ [])
+      Step n b waiting (submitTaken b i) (submit (submitOf i (b .members i)) ∷ []) (submitR (m .second) (m .first) ∷ [])
   unfolding submitTaken answered submitOf idIn allFit eachOnce halfAnswers halfAnswer halfAfter
   submit-step p =
       let m = b .members i in
@@ -126,7 +126,7 @@ module _ (kind : Kind) (n : ℕ) (b : Board) (waiting : Id → Bool) (h : AllSen
       let none : (a : Id) → a .client ≡ i → waiting a ≡ false = λ a at. rw p at (h i .waits (λ z. omega arith) a at) in
       record {
         left = λ other. waiting other || sameId other id;
-        sends = put-all (λ k m. Sends kind n k m (λ other. waiting other || sameId other id)) (b .members) i sent
+        sends = put-all (λ k m. Sends n k m (λ other. waiting other || sameId other id)) (b .members) i sent
             (record { fit = λ d. fit; waits = λ d a at. rw (none a at) })
             (λ k d. record {
               fit = h k .fit;
@@ -140,7 +140,7 @@ module _ (kind : Kind) (n : ℕ) (b : Board) (waiting : Id → Bool) (h : AllSen
       }
 
   -- phase 2, the reply: the member goes on or halts, and sends the host nothing
-  reply-step : b .members i .phase ≡ 2 → Step kind n b waiting (replyTaken n b i) [] []
+  reply-step : b .members i .phase ≡ 2 → Step n b waiting (replyTaken n b i) [] []
   unfolding replyTaken replied passed failed submitOf
   reply-step p =
       let m = b .members i in
@@ -152,8 +152,8 @@ module _ (kind : Kind) (n : ℕ) (b : Board) (waiting : Id → Bool) (h : AllSen
 
   -- phase 3, the commit
   commit-step : b .members i .phase ≡ 3
-      → let m = commitTaken kind b i .members i in
-      Step kind n b waiting (commitTaken kind b i) (commit (sentRecord i (b .members i)) ∷ []) (commitR (eqb (m .phase) 4) ∷ [])
+      → let m = commitTaken b i .members i in
+      Step n b waiting (commitTaken b i) (commit (sentRecord i (b .members i)) ∷ []) (commitR (eqb (m .phase) 4) ∷ [])
   unfolding commitTaken judged sentRecord submitOf idOf idIn allFit eachOnce halfAnswers halfAnswer halfAfter
   commit-step p =
       let m = b .members i in
@@ -163,7 +163,7 @@ module _ (kind : Kind) (n : ℕ) (b : Board) (waiting : Id → Bool) (h : AllSen
       let mine : (a : Id) → a .client ≡ i → waiting a ≡ sameId a id = λ a at. rw p at (h i .waits (λ z. omega arith) a at) in
       record {
         left = λ other. waiting other && not (sameId other id);
-        sends = put-all (λ k m. Sends kind n k m (λ other. waiting other && not (sameId other id))) (b .members) i (judged m won)
+        sends = put-all (λ k m. Sends n k m (λ other. waiting other && not (sameId other id))) (b .members) i (judged m won)
             (record { fit = λ d. fit; waits = λ d a at. rw (mine a at) (none-both (sameId a id) ∙ on won (λ t. rw t) (λ t. rw t)) })
             (λ k d. record {
               fit = h k .fit;
@@ -178,7 +178,7 @@ module _ (kind : Kind) (n : ℕ) (b : Board) (waiting : Id → Bool) (h : AllSen
 
   -- phases 4 and 5, the outcome: the member is at rest
   outcome-step : (won : Bool) → eqb (b .members i .phase) 2 ≡ false → eqb (b .members i .phase) 3 ≡ false
-      → (b .members i .phase ≡ 6 → ⊥) → Step kind n b waiting (outcomeTaken b i won) [] []
+      → (b .members i .phase ≡ 6 → ⊥) → Step n b waiting (outcomeTaken b i won) [] []
   unfolding outcomeTaken outcome completed tookOver dropped
   outcome-step won p q e = one-member (outcome m won) (on won
       (λ t. rw t (at-rest (completed m) refl))
@@ -187,10 +187,10 @@ module _ (kind : Kind) (n : ℕ) (b : Board) (waiting : Id → Bool) (h : AllSen
       m : Member
       m = b .members i
 
-      at-rest : (m : Member) → m .phase ≡ 0 → Sends kind n i m waiting
+      at-rest : (m : Member) → m .phase ≡ 0 → Sends n i m waiting
       at-rest m z = record { fit = λ d. absurd (d z); waits = λ d a at. rw z (rw (p, q) at (h i .waits e a at)) }
 
-  deliver-step : answerOf kind n b (deliver i) ≡ 0 → StepBy kind n b waiting (deliver i)
+  deliver-step : answerOf kind n b (deliver i) ≡ 0 → StepBy n b waiting (deliver i)
   unfolding answerOf done boardDelivered sentBy gotBy
   deliver-step e =
       let phase = b .members i .phase in
@@ -199,28 +199,28 @@ module _ (kind : Kind) (n : ℕ) (b : Board) (waiting : Id → Bool) (h : AllSen
       (λ q. on (eqb phase 3) (λ t. rw (p, q, t) (commit-step (eqb-true phase 3 t)))
       (λ t. rw (p, q, t) (outcome-step (eqb phase 4) q t (deliver-taken n phase (b .members i .crashed) i e .notHalted)))))
 
-step : (kind : Kind) (n : ℕ) (b : Board) (waiting : Id → Bool) → AllSend kind n b waiting → (call : Call)
-    → answerOf kind n b call ≡ 0 → StepBy kind n b waiting call
+step : (kind : Kind) (n : ℕ) (b : Board) (waiting : Id → Bool) → AllSend n b waiting → (call : Call)
+    → answerOf kind n b call ≡ 0 → StepBy n b waiting call
 step kind n b waiting h (begin i r t v) e = begin-step kind n b waiting h i r t v e
 step kind n b waiting h (deliver i) e = deliver-step kind n b waiting h i e
 step kind n b waiting h (crash i) e = crash-step kind n b waiting h i
 
-run-talk : (kind : Kind) (n : ℕ) (calls : List Call) (b : Board) (waiting : Id → Bool) → AllSend kind n b waiting
-    → Talk kind n b waiting (messagesOf kind n b calls) (answersOf kind n b calls)
+run-talk : (kind : Kind) (n : ℕ) (calls : List Call) (b : Board) (waiting : Id → Bool) → AllSend n b waiting
+    → Talk n b waiting (messagesOf kind n b calls) (answersOf kind n b calls)
 unfolding messagesOf answersOf after allFit eachOnce halfAnswers
 run-talk kind n [] b waiting h = record { fit = refl; once = refl; same = refl }
 run-talk kind n (call ∷ calls) b waiting h = on (eqb (answerOf kind n b call) 0)
     (λ p. let t = step kind n b waiting h call (eqb-true (answerOf kind n b call) 0 p) in
-    rw p (t .talk _ _ (run-talk kind n calls (done kind n b call) (t .left) (t .sends))))
+    rw p (t .talk _ _ (run-talk kind n calls (done n b call) (t .left) (t .sends))))
     (λ p. rw p (run-talk kind n calls b waiting h))
 
-opened-send : (kind : Kind) (n : ℕ) → AllSend kind n (opened n) noneWaiting
+opened-send : (n : ℕ) → AllSend n (opened n) noneWaiting
 unfolding opened idle noneWaiting
-opened-send kind n k = record { fit = λ d. absurd (d refl); waits = λ d a at. refl }
+opened-send n k = record { fit = λ d. absurd (d refl); waits = λ d a at. refl }
 
 opened-talk : (kind : Kind) (n : ℕ) (calls : List Call)
-    → Talk kind n (opened n) noneWaiting (messagesOf kind n (opened n) calls) (answersOf kind n (opened n) calls)
-opened-talk kind n calls = run-talk kind n calls (opened n) noneWaiting (opened-send kind n)
+    → Talk n (opened n) noneWaiting (messagesOf kind n (opened n) calls) (answersOf kind n (opened n) calls)
+opened-talk kind n calls = run-talk kind n calls (opened n) noneWaiting (opened-send n)
 
 pub run-sends : (kind : Kind) (n : ℕ) (calls : List Call) → RunSends kind n calls
 run-sends kind n calls = let t = opened-talk kind n calls in record { fit = t .fit; once = t .once }
@@ -229,4 +229,4 @@ pub host-as-published : (kind : Kind) (n : ℕ) (calls : List Call) → HostAsPu
 unfolding halfOpened
 host-as-published kind n calls =
     let t = opened-talk kind n calls in
-    record { answers = half-as-published kind n (messagesOf kind n (opened n) calls) .printed (t .fit) (t .once) ∙ t .same }
+    record { answers = half-as-published n (messagesOf kind n (opened n) calls) .printed (t .fit) (t .once) ∙ t .same }

@@ -1,11 +1,10 @@
 -- The board: n members and n host entries joined. Document 01, "Steps".
 use Prim.Native.Nat.{ℕ}
-use mathlib.Core.Bool.{Bool, true, false, cond}
-use mathlib.Core.Option.{Option, none, some}
+use mathlib.Core.Bool.{Bool, cond}
+use mathlib.Core.Option.{Option}
 use lib.Dec.{eqb}
 use Rattle.lists.specs.Functions.{put, within}
 use Rattle.model.specs.Records.{Value, Rec, opening, zeroRecord}
-use Rattle.model.specs.Kinds.{Kind}
 use Rattle.model.specs.Member.{Member, idle, begun, answered, replied, judged, outcome, returnedBy, crashedOf}
 use Rattle.model.specs.Host.{Entry, submitted, wins, entryAfter, storedAfter}
 
@@ -59,27 +58,27 @@ sentRecord i m = record {
   matrix = m .first .matrix;
 }
 
-unfoldable pub commitTaken : Kind → Board → ℕ → Board
-commitTaken kind b i =
+unfoldable pub commitTaken : Board → ℕ → Board
+commitTaken b i =
     let m = b .members i in
     let r = m .slot in
     let c = sentRecord i m in
     record {
       members = put (b .members) i (judged m (wins (b .host r) c));
       host = put (b .host) r (entryAfter (b .host r) c);
-      stored = put (b .stored) r (storedAfter kind (b .host r) (b .stored r) c);
+      stored = put (b .stored) r (storedAfter (b .host r) (b .stored r) c);
     }
 
 -- Phases 4 and 5: the member takes the outcome.
 unfoldable pub outcomeTaken : Board → ℕ → Bool → Board
 outcomeTaken b i won = withMember b i (outcome (b .members i) won)
 
-unfoldable pub boardDelivered : Kind → ℕ → Board → ℕ → Board
-boardDelivered kind n b i =
+unfoldable pub boardDelivered : ℕ → Board → ℕ → Board
+boardDelivered n b i =
     let phase = b .members i .phase in
     cond (eqb phase 1) (submitTaken b i)
     (cond (eqb phase 2) (replyTaken n b i)
-    (cond (eqb phase 3) (commitTaken kind b i)
+    (cond (eqb phase 3) (commitTaken b i)
     (outcomeTaken b i (eqb phase 4))))
 
 -- the value that a deliver hands back

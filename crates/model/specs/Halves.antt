@@ -4,16 +4,16 @@
 use Prim.Native.Nat.{ℕ}
 use mathlib.Core.Bool.{Bool, cond, not, _&&_, _||_}
 use mathlib.Core.List.{List}
-use mathlib.Core.Option.{Option, none, some}
+use mathlib.Core.Option.{Option, none}
 use lib.Dec.{eqb, leb}
 use lib.ListN.{length}
 use Rattle.lists.specs.Functions.{put, inside}
 use Rattle.lists.specs.Parts.{words}
 use Rattle.model.specs.Records.{Value, Rec}
-use Rattle.model.specs.Kinds.{Kind, isOperation, barred}
+use Rattle.model.specs.Kinds.{Kind, isSize, isOperation, barred}
 use Rattle.model.specs.Numbers.{beginAnswer, crashAnswer}
 use Rattle.model.specs.Member.{Member, begun, replied, outcome, returnedBy, crashedOf}
-use Rattle.model.specs.Host.{Entry, submitted, wins, entryAfter, storedAfter}
+use Rattle.model.specs.Host.{submitted, wins, entryAfter, storedAfter}
 use Rattle.model.specs.Table.{memberOf, memberWords, blockNumber, hostOf, storedRecordsOf, hostWords, entriesNumber}
 
 -- the first ground that holds: "Checks go down the table."
@@ -31,16 +31,16 @@ fitRecord n r = inside n (r .member) && inside n (r .slot) && isOperation (r .op
 -- The member half, on the words l of member i's block.
 
 -- 1, 2, 3, 4
-unfoldable pub memberNumber : Kind → ℕ → ℕ → List ℕ → ℕ
-memberNumber kind n i l =
-    orElse (cond (not (inside 12 n)) 1 0)
-    (orElse (blockNumber kind n i (length l) (memberOf n (words l)))
+unfoldable pub memberNumber : ℕ → ℕ → List ℕ → ℕ
+memberNumber n i l =
+    orElse (cond (not (isSize n)) 1 0)
+    (orElse (blockNumber n i (length l) (memberOf n (words l)))
     (cond (not (inside n i)) 4 0))
 
 unfoldable pub memberBeginNumber : Kind → ℕ → ℕ → List ℕ → ℕ → ℕ → ℕ
 memberBeginNumber kind n i l r t =
     let m = memberOf n (words l) in
-    orElse (memberNumber kind n i l) (beginAnswer kind n (m .phase) (m .crashed) (m .own r) i r t)
+    orElse (memberNumber n i l) (beginAnswer kind n (m .phase) (m .crashed) (m .own r) i r t)
 
 unfoldable pub memberBeginWords : Kind → ℕ → ℕ → List ℕ → ℕ → ℕ → Value → List ℕ
 memberBeginWords kind n i l r t v =
@@ -51,61 +51,61 @@ unfoldable pub notWaiting : ℕ → Member → Bool
 notWaiting phase m = not (eqb (m .phase) phase) || not (eqb (m .crashed) 0)
 
 -- "15 a seals value above 3, or a reply or outcome with a field as above"
-unfoldable pub replyNumber : Kind → ℕ → ℕ → List ℕ → Rec → Rec → ℕ → ℕ
-replyNumber kind n i l newest stored seals =
-    orElse (memberNumber kind n i l)
+unfoldable pub replyNumber : ℕ → ℕ → List ℕ → Rec → Rec → ℕ → ℕ
+replyNumber n i l newest stored seals =
+    orElse (memberNumber n i l)
     (cond (notWaiting 1 (memberOf n (words l))) 10
     (cond (not (leb seals 3 && (fitRecord n newest && fitRecord n stored))) 15
     0))
 
-unfoldable pub replyWords : Kind → ℕ → ℕ → List ℕ → Rec → Rec → ℕ → List ℕ
-replyWords kind n i l newest stored seals =
-    unlessRefused (replyNumber kind n i l newest stored seals) l (memberWords n (replied n i (memberOf n (words l)) newest stored seals))
+unfoldable pub replyWords : ℕ → ℕ → List ℕ → Rec → Rec → ℕ → List ℕ
+replyWords n i l newest stored seals =
+    unlessRefused (replyNumber n i l newest stored seals) l (memberWords n (replied n i (memberOf n (words l)) newest stored seals))
 
 -- an outcome is 1 accepted, 2 aborted
-unfoldable pub outcomeNumber : Kind → ℕ → ℕ → List ℕ → ℕ → ℕ
-outcomeNumber kind n i l result =
-    orElse (memberNumber kind n i l)
+unfoldable pub outcomeNumber : ℕ → ℕ → List ℕ → ℕ → ℕ
+outcomeNumber n i l result =
+    orElse (memberNumber n i l)
     (cond (notWaiting 3 (memberOf n (words l))) 10
     (cond (not (inside 2 result)) 15
     0))
 
-unfoldable pub outcomeWords : Kind → ℕ → ℕ → List ℕ → ℕ → List ℕ
-outcomeWords kind n i l result =
-    unlessRefused (outcomeNumber kind n i l result) l (memberWords n (outcome (memberOf n (words l)) (eqb result 1)))
+unfoldable pub outcomeWords : ℕ → ℕ → List ℕ → ℕ → List ℕ
+outcomeWords n i l result =
+    unlessRefused (outcomeNumber n i l result) l (memberWords n (outcome (memberOf n (words l)) (eqb result 1)))
 
 -- the value that taking an outcome hands back, or none
-unfoldable pub outcomeReturns : Kind → ℕ → ℕ → List ℕ → ℕ → Option Value
-outcomeReturns kind n i l result =
-    cond (eqb (outcomeNumber kind n i l result) 0) (returnedBy (memberOf n (words l)) (eqb result 1)) none
+unfoldable pub outcomeReturns : ℕ → ℕ → List ℕ → ℕ → Option Value
+outcomeReturns n i l result =
+    cond (eqb (outcomeNumber n i l result) 0) (returnedBy (memberOf n (words l)) (eqb result 1)) none
 
-unfoldable pub memberCrashNumber : Kind → ℕ → ℕ → List ℕ → ℕ
-memberCrashNumber kind n i l =
+unfoldable pub memberCrashNumber : ℕ → ℕ → List ℕ → ℕ
+memberCrashNumber n i l =
     let m = memberOf n (words l) in
-    orElse (memberNumber kind n i l) (crashAnswer n (m .phase) (m .crashed) i)
+    orElse (memberNumber n i l) (crashAnswer n (m .phase) (m .crashed) i)
 
-unfoldable pub memberCrashWords : Kind → ℕ → ℕ → List ℕ → List ℕ
-memberCrashWords kind n i l =
-    unlessRefused (memberCrashNumber kind n i l) l (memberWords n (crashedOf (memberOf n (words l))))
+unfoldable pub memberCrashWords : ℕ → ℕ → List ℕ → List ℕ
+memberCrashWords n i l =
+    unlessRefused (memberCrashNumber n i l) l (memberWords n (crashedOf (memberOf n (words l))))
 
 -- The host half, on the words l of the n host entries.
 
 -- 1, 2, 3, then 4, 5, 6, 7 by the fields of the submit or of the record; counts are not judged
-unfoldable pub hostNumber : Kind → ℕ → List ℕ → ℕ → ℕ → ℕ → ℕ
-hostNumber kind n l i r t =
-    orElse (cond (not (inside 12 n)) 1 0)
+unfoldable pub hostNumber : ℕ → List ℕ → ℕ → ℕ → ℕ → ℕ
+hostNumber n l i r t =
+    orElse (cond (not (isSize n)) 1 0)
     (orElse (entriesNumber n (length l) (hostOf n (words l)) (storedRecordsOf n (words l)))
     (cond (not (inside n i)) 4
     (cond (not (inside n r)) 5
     (cond (not (isOperation t)) 6
-    (cond (barred kind i r t) 7
+    (cond (barred i r t) 7
     0)))))
 
 -- a submit by member i, on slot r, of type t, with its own count; the reply is the slot's newest and stored records
-unfoldable pub submitWords : Kind → ℕ → List ℕ → ℕ → ℕ → ℕ → ℕ → List ℕ
-submitWords kind n l i r t count =
+unfoldable pub submitWords : ℕ → List ℕ → ℕ → ℕ → ℕ → ℕ → List ℕ
+submitWords n l i r t count =
     let host = hostOf n (words l) in
-    unlessRefused (hostNumber kind n l i r t) l
+    unlessRefused (hostNumber n l i r t) l
     (hostWords n (put host r (submitted (host r) i count)) (storedRecordsOf n (words l)))
 
 unfoldable pub submitNewest : ℕ → List ℕ → ℕ → Rec
@@ -115,17 +115,17 @@ unfoldable pub submitStored : ℕ → List ℕ → ℕ → Rec
 submitStored n l r = storedRecordsOf n (words l) r
 
 -- a commit of record c; the outcome is 1 accepted, 2 aborted, and 0 where it is refused
-unfoldable pub commitNumber : Kind → ℕ → List ℕ → Rec → ℕ
-commitNumber kind n l c = hostNumber kind n l (c .member) (c .slot) (c .operation)
+unfoldable pub commitNumber : ℕ → List ℕ → Rec → ℕ
+commitNumber n l c = hostNumber n l (c .member) (c .slot) (c .operation)
 
-unfoldable pub commitOutcome : Kind → ℕ → List ℕ → Rec → ℕ
-commitOutcome kind n l c =
-    cond (eqb (commitNumber kind n l c) 0) (cond (wins (hostOf n (words l) (c .slot)) c) 1 2) 0
+unfoldable pub commitOutcome : ℕ → List ℕ → Rec → ℕ
+commitOutcome n l c =
+    cond (eqb (commitNumber n l c) 0) (cond (wins (hostOf n (words l) (c .slot)) c) 1 2) 0
 
-unfoldable pub commitWords : Kind → ℕ → List ℕ → Rec → List ℕ
-commitWords kind n l c =
+unfoldable pub commitWords : ℕ → List ℕ → Rec → List ℕ
+commitWords n l c =
     let host = hostOf n (words l) in
     let stored = storedRecordsOf n (words l) in
     let r = c .slot in
-    unlessRefused (commitNumber kind n l c) l
-    (hostWords n (put host r (entryAfter (host r) c)) (put stored r (storedAfter kind (host r) (stored r) c)))
+    unlessRefused (commitNumber n l c) l
+    (hostWords n (put host r (entryAfter (host r) c)) (put stored r (storedAfter (host r) (stored r) c)))

@@ -4,7 +4,7 @@ use Prim.Native.Nat.{ℕ}
 use mathlib.Core.Bool.{Bool, cond, _&&_}
 use lib.Dec.{eqb}
 use Rattle.model.specs.Records.{Rec}
-use Rattle.model.specs.Kinds.{Kind, becomesStored}
+use Rattle.model.specs.Kinds.{becomesStored}
 
 -- "member and count of the newest submit (0, 0 for none)", and the newest record
 pub record Entry : Type 0 where
@@ -26,5 +26,5 @@ wins e c = eqb (e .submitMember) (c .member) && eqb (e .submitCount) (c .count)
 unfoldable pub entryAfter : Entry → Rec → Entry
 entryAfter e c = cond (wins e c) (record { submitMember = 0; submitCount = 0; newest = c }) e
 
-unfoldable pub storedAfter : Kind → Entry → Rec → Rec → Rec
-storedAfter kind e stored c = cond (wins e c && becomesStored kind c) c stored
+unfoldable pub storedAfter : Entry → Rec → Rec → Rec
+storedAfter e stored c = cond (wins e c && becomesStored c) c stored

@@ -48,16 +48,16 @@ halfOpened n = record { host = opened n .host; stored = opened n .stored }
 
 -- ".. and takes submits and commits as above, by the fields in them": what a message leaves, as submitWords and commitWords of
 -- Halves.antt have it
-unfoldable pub halfAfter : Kind → Half → ToServer → Half
-halfAfter kind h (submit id) = record {
+unfoldable pub halfAfter : Half → ToServer → Half
+halfAfter h (submit id) = record {
   host = put (h .host) (id .reg) (submitted (h .host (id .reg)) (id .client) (id .count));
   stored = h .stored;
 }
-halfAfter kind h (commit op) =
+halfAfter h (commit op) =
     let r = op .slot in
     record {
       host = put (h .host) r (entryAfter (h .host r) op);
-      stored = put (h .stored) r (storedAfter kind (h .host r) (h .stored r) op);
+      stored = put (h .stored) r (storedAfter (h .host r) (h .stored r) op);
     }
 
 -- and what it answers: the slot's stored and newest records, or whether the commit is accepted
@@ -65,26 +65,26 @@ unfoldable pub halfAnswer : Half → ToServer → FromServer
 halfAnswer h (submit id) = submitR (h .stored (id .reg)) (h .host (id .reg) .newest)
 halfAnswer h (commit op) = commitR (wins (h .host (op .slot)) op)
 
-unfoldable pub halfAnswers : Kind → Half → List ToServer → List FromServer
-halfAnswers kind h [] = []
-halfAnswers kind h (message ∷ messages) = halfAnswer h message ∷ halfAnswers kind (halfAfter kind h message) messages
+unfoldable pub halfAnswers : Half → List ToServer → List FromServer
+halfAnswers h [] = []
+halfAnswers h (message ∷ messages) = halfAnswer h message ∷ halfAnswers (halfAfter h message) messages
 
 -- The fields are none of those that the half refuses by number 4, 5, 6 or 7 (hostNumber, Halves.antt). No member is 0, then, which a mark
 -- has for none; and by 7 a member's type on a slot is one, so that a mark, which has no type, names one id.
-unfoldable pub fits : Kind → ℕ → Id → Bool
-fits kind n id =
+unfoldable pub fits : ℕ → Id → Bool
+fits n id =
     inside n (id .client)
     && inside n (id .reg)
     && isOperation (id .operation)
-    && not (barred kind (id .client) (id .reg) (id .operation))
+    && not (barred (id .client) (id .reg) (id .operation))
 
 unfoldable pub idIn : ToServer → Id
 idIn (submit id) = id
 idIn (commit op) = idOf op
 
-unfoldable pub allFit : Kind → ℕ → List ToServer → Bool
-allFit kind n [] = true
-allFit kind n (message ∷ messages) = fits kind n (idIn message) && allFit kind n messages
+unfoldable pub allFit : ℕ → List ToServer → Bool
+allFit n [] = true
+allFit n (message ∷ messages) = fits n (idIn message) && allFit n messages
 
 -- Algorithm 5 with document 01's 5.4, 5.9 and 5.12: no other line differs.
 
@@ -115,17 +115,17 @@ noneWaiting id = false
 
 -- The claims.
 
-pub record HalfAsPublished (kind : Kind) (n : ℕ) (messages : List ToServer) : Type 0 where
+pub record HalfAsPublished (n : ℕ) (messages : List ToServer) : Type 0 where
   -- on every stream that fits, Algorithm 5 with document 01's lines
-  pub noted : allFit kind n messages ≡ true
-      → notedAnswers serverOpened messages ≡ halfAnswers kind (halfOpened n) messages
+  pub noted : allFit n messages ≡ true
+      → notedAnswers serverOpened messages ≡ halfAnswers (halfOpened n) messages
   -- as printed but for 5.12, where each commit follows its own submit once
-  pub printed : allFit kind n messages ≡ true → eachOnce noneWaiting messages ≡ true
-      → serverAnswers line512writes serverOpened messages ≡ halfAnswers kind (halfOpened n) messages
+  pub printed : allFit n messages ≡ true → eachOnce noneWaiting messages ≡ true
+      → serverAnswers line512writes serverOpened messages ≡ halfAnswers (halfOpened n) messages
 
 -- what the members of every run send meets both premises
 pub record RunSends (kind : Kind) (n : ℕ) (calls : List Call) : Type 0 where
-  pub fit : allFit kind n (messagesOf kind n (opened n) calls) ≡ true
+  pub fit : allFit n (messagesOf kind n (opened n) calls) ≡ true
   pub once : eachOnce noneWaiting (messagesOf kind n (opened n) calls) ≡ true
 
 -- The difference at 5.9, of every operation op that fits: the commit never submitted, and the commit that comes a second time. Algorithm
@@ -140,16 +140,16 @@ repeated op = submit (idOf op) ∷ commit op ∷ commit op ∷ []
 unfoldable pub resubmitted : Rec → List ToServer
 resubmitted op = submit (idOf op) ∷ submit (idOf op) ∷ commit op ∷ []
 
-pub record HalfDiffers (kind : Kind) (n : ℕ) (op : Rec) : Type 0 where
+pub record HalfDiffers (n : ℕ) (op : Rec) : Type 0 where
   pub unaskedServer : serverAnswers line512writes serverOpened (unasked op) ≡ commitR true ∷ []
-  pub unaskedHalf : halfAnswers kind (halfOpened n) (unasked op) ≡ commitR false ∷ []
+  pub unaskedHalf : halfAnswers (halfOpened n) (unasked op) ≡ commitR false ∷ []
   pub repeatedServer : serverAnswers line512writes serverOpened (repeated op)
       ≡ submitR (opening (op .slot)) (opening (op .slot)) ∷ commitR true ∷ commitR true ∷ []
-  pub repeatedHalf : halfAnswers kind (halfOpened n) (repeated op)
+  pub repeatedHalf : halfAnswers (halfOpened n) (repeated op)
       ≡ submitR (opening (op .slot)) (opening (op .slot)) ∷ commitR true ∷ commitR false ∷ []
   pub resubmittedServer : serverAnswers line512writes serverOpened (resubmitted op)
       ≡ submitR (opening (op .slot)) (opening (op .slot)) ∷ submitR (opening (op .slot)) (opening (op .slot)) ∷ commitR false ∷ []
-  pub resubmittedHalf : halfAnswers kind (halfOpened n) (resubmitted op)
+  pub resubmittedHalf : halfAnswers (halfOpened n) (resubmitted op)
       ≡ submitR (opening (op .slot)) (opening (op .slot)) ∷ submitR (opening (op .slot)) (opening (op .slot)) ∷ commitR true ∷ []
 
 -- A stream in which the premises hold, with its answers written out: on slot 1 of two, member 2's read overtakes member 1's write, which
@@ -183,8 +183,8 @@ sampleAnswers =
     ∷ commitR true
     ∷ []
 
-pub record SampleHolds (kind : Kind) : Type 0 where
-  pub fit : allFit kind 2 sample ≡ true
+pub record SampleHolds : Type 0 where
+  pub fit : allFit 2 sample ≡ true
   pub once : eachOnce noneWaiting sample ≡ true
-  pub answers : halfAnswers kind (halfOpened 2) sample ≡ sampleAnswers
+  pub answers : halfAnswers (halfOpened 2) sample ≡ sampleAnswers
   pub server : serverAnswers line512writes serverOpened sample ≡ sampleAnswers

@@ -1,25 +1,39 @@
--- The kind of board, a parameter of every step, of the reference and of every theorem; and the two rules that a kind may change.
-use Prim.Native.Nat.{ℕ}
+-- The kind of board: what may differ between boards that share all their steps. An opening looks at its `most`, a begin at its `limit`,
+-- and no other step at anything of it; runs, the reference and the theorems are stated for every kind. Below it, the rules that are the
+-- same for all kinds: the sizes of boards, what is an operation, what number 7 refuses, what becomes stored.
+use Prim.Native.Nat.{ℕ, _≤_}
 use mathlib.Core.Bool.{Bool, cond, not, _||_}
+use native.Mathlib.Omega.{arith}
 use lib.Dec.{eqb}
+use Rattle.lists.specs.Functions.{inside}
 use Rattle.model.specs.Records.{read, write, Rec}
+
+-- "n not 1 to 12": tables, messages and halves of these sizes there are, whatever the kind
+abbrev pub mostMembers : ℕ
+mostMembers = 12
+
+abbrev pub isSize : ℕ → Bool
+isSize n = inside mostMembers n
 
 pub record Kind : Type 0 where
   -- begin answers 9 where the own count has reached this
   pub limit : ℕ
+  -- opening answers 1 where there are more members than this, and no kind has more than there are sizes
+  pub most : ℕ
+  pub sized : most ≤ mostMembers
 
--- the board of document 01: "9 own count is 4,294,967,295"
+-- the board of document 01: "9 own count is 4,294,967,295", "1 n not 1 to 12"
 abbrev pub concur : Kind
-concur = record { limit = 4294967295 }
+concur = record { limit = 4294967295; most = mostMembers; sized = omega arith }
 
 -- "type not 1 or 2" is number 6
 unfoldable pub isOperation : ℕ → Bool
 isOperation t = eqb t read || eqb t write
 
 -- what number 7 refuses: "a write to another's slot or a read of one's own"
-unfoldable pub barred : Kind → ℕ → ℕ → ℕ → Bool
-barred kind i r t = cond (eqb t write) (not (eqb i r)) (eqb i r)
+unfoldable pub barred : ℕ → ℕ → ℕ → Bool
+barred i r t = cond (eqb t write) (not (eqb i r)) (eqb i r)
 
 -- whether an accepted record also becomes the slot's stored record: "for a write also the stored one"
-unfoldable pub becomesStored : Kind → Rec → Bool
-becomesStored kind c = eqb (c .operation) write
+unfoldable pub becomesStored : Rec → Bool
+becomesStored c = eqb (c .operation) write

@@ -10,7 +10,7 @@ use Rattle.lists.specs.Functions.{from, inside, each}
 use Rattle.lists.specs.Parts.{words, tabulate}
 use Rattle.model.specs.Records.{Rec, recordWithin}
 use Rattle.model.specs.RecordWords.{recordOf, recordWords}
-use Rattle.model.specs.Kinds.{isOperation}
+use Rattle.model.specs.Kinds.{isSize, isOperation}
 use Rattle.model.specs.Halves.{fitRecord}
 
 pub data Message : Type 0 where
@@ -114,7 +114,7 @@ rightN n b = not (eqb (b 3) 2 || eqb (b 3) 3) || eqb (b 4) n
 unfoldable pub readNumber : ℕ → List ℕ → ℕ
 readNumber n l =
     let b = words l in
-    cond (not (inside 12 n)) 1
+    cond (not (isSize n)) 1
     (cond (ltb (length l) 4) 12
     (cond (not (eqb (b 0 * 256 + b 1) (length l - 2))) 12
     (cond (not (eqb (b 2) 1)) 13
@@ -140,7 +140,7 @@ writtenLength n (some m) = length (encode n m)
 -- "1 n not 1 to 12", "15 a field as above; 16 output shorter than the message"
 unfoldable pub writeNumber : ℕ → Option Message → ℕ → ℕ
 writeNumber n m room =
-    cond (not (inside 12 n)) 1
+    cond (not (isSize n)) 1
     (cond (not (fitGiven n m)) 15
     (cond (ltb room (writtenLength n m)) 16
     0))

@@ -2,7 +2,7 @@
 -- answer where no ground holds. Each is a function of the member's phase and crash mark, of its own count on the slot, and of the
 -- arguments, so that the contracts, the board and the reference share it.
 use Prim.Native.Nat.{ℕ}
-use mathlib.Core.Bool.{Bool, cond, not, _&&_, _||_}
+use mathlib.Core.Bool.{cond, not, _&&_, _||_}
 use lib.Dec.{eqb, leb}
 use Rattle.lists.specs.Functions.{inside}
 use Rattle.model.specs.Kinds.{Kind, isOperation, barred}
@@ -13,7 +13,7 @@ beginAnswer kind n phase crashed count i r t =
     cond (not (inside n i)) 4
     (cond (not (inside n r)) 5
     (cond (not (isOperation t)) 6
-    (cond (barred kind i r t) 7
+    (cond (barred i r t) 7
     (cond (not (eqb phase 0) || not (eqb crashed 0)) 8
     (cond (leb (kind .limit) count) 9
     0)))))

@@ -3,7 +3,7 @@
 use Prim.Native.Nat.{ℕ}
 use mathlib.Core.Bool.{cond}
 use mathlib.Core.List.{List, [], _∷_}
-use mathlib.Core.Option.{Option, none, some}
+use mathlib.Core.Option.{Option, none}
 use lib.Dec.{eqb}
 use Rattle.model.specs.Records.{Value}
 use Rattle.model.specs.Kinds.{Kind}
@@ -30,10 +30,10 @@ answerOf kind n b (deliver i) = let m = b .members i in deliverAnswer n (m .phas
 answerOf kind n b (crash i) = let m = b .members i in crashAnswer n (m .phase) (m .crashed) i
 
 -- the board after a call that is answered 0, and what it returns
-unfoldable pub done : Kind → ℕ → Board → Call → Board
-done kind n b (begin i r t v) = boardBegun b i r t v
-done kind n b (deliver i) = boardDelivered kind n b i
-done kind n b (crash i) = boardCrashed b i
+unfoldable pub done : ℕ → Board → Call → Board
+done n b (begin i r t v) = boardBegun b i r t v
+done n b (deliver i) = boardDelivered n b i
+done n b (crash i) = boardCrashed b i
 
 unfoldable pub doneReturns : Board → Call → Option Value
 doneReturns b (begin i r t v) = none
@@ -42,7 +42,7 @@ doneReturns b (crash i) = none
 
 -- "a refusal changes nothing"
 unfoldable pub after : Kind → ℕ → Board → Call → Board
-after kind n b call = cond (eqb (answerOf kind n b call) 0) (done kind n b call) b
+after kind n b call = cond (eqb (answerOf kind n b call) 0) (done n b call) b
 
 unfoldable pub seenAt : Kind → ℕ → Board → Call → Seen
 seenAt kind n b call = record {

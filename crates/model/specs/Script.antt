@@ -243,7 +243,7 @@ mostSteps = 1000000
 unfoldable pub boardPrinted : Kind → Option ℕ → List (List ℕ) → List ℕ
 boardPrinted kind none lines = refusedLine 17
 boardPrinted kind (some n) lines =
-    cond (inside 12 n) (boardLine n ++ stepsPrinted kind 1 (tableWords n (opened n)) (take mostSteps lines)) (refusedLine 1)
+    cond (inside (kind .most) n) (boardLine n ++ stepsPrinted kind 1 (tableWords n (opened n)) (take mostSteps lines)) (refusedLine 1)
 
 -- an empty script has no first line
 unfoldable pub linesPrinted : Kind → List (List ℕ) → List ℕ

@@ -10,7 +10,7 @@ use Rattle.lists.specs.Parts.{words, tabulate, listed}
 use Rattle.lists.specs.Pieces.{place, pieces, laid}
 use Rattle.model.specs.Records.{Rec, zeroRecord}
 use Rattle.model.specs.RecordWords.{recordSize, rowOf, matrixOf, valueOf, recordOf, matrixWord, recordWords}
-use Rattle.model.specs.Kinds.{Kind, barred}
+use Rattle.model.specs.Kinds.{isSize, barred}
 use Rattle.model.specs.Member.{Member, idle}
 use Rattle.model.specs.Host.{Entry}
 use Rattle.model.specs.Board.{Board, noEntry}
@@ -171,19 +171,19 @@ unfoldable pub soundRecord : ℕ → Rec → Bool
 soundRecord n r = leb (r .member) n && leb (r .slot) n && leb (r .operation) 2
 
 -- the operation of a member in phase 1 to 5
-unfoldable pub soundOperation : Kind → ℕ → Member → Bool
-soundOperation kind i m =
-    not (inside 5 (m .phase)) || leb 1 (m .slot) && leb 1 (m .operation) && not (barred kind i (m .slot) (m .operation))
+unfoldable pub soundOperation : ℕ → Member → Bool
+soundOperation i m =
+    not (inside 5 (m .phase)) || leb 1 (m .slot) && leb 1 (m .operation) && not (barred i (m .slot) (m .operation))
 
 -- the block of member i
-unfoldable pub soundMember : Kind → ℕ → ℕ → Member → Bool
-soundMember kind n i m =
+unfoldable pub soundMember : ℕ → ℕ → Member → Bool
+soundMember n i m =
     leb (m .phase) 6
     && leb (m .crashed) 1
     && (eqb (m .halt) 0 || leb 21 (m .halt) && leb (m .halt) 27)
     && leb (m .slot) n
     && leb (m .operation) 2
-    && soundOperation kind i m
+    && soundOperation i m
     && soundRecord n (m .first)
     && soundRecord n (m .second)
 
@@ -193,23 +193,23 @@ soundEntry n e stored = leb (e .submitMember) n && soundRecord n stored && sound
 unfoldable pub soundHost : ℕ → (ℕ → Entry) → (ℕ → Rec) → Bool
 soundHost n host stored = each n (λ r. soundEntry n (host r) (stored r))
 
-unfoldable pub soundBoard : Kind → ℕ → Board → Bool
-soundBoard kind n b = each n (λ i. soundMember kind n i (b .members i)) && soundHost n (b .host) (b .stored)
+unfoldable pub soundBoard : ℕ → Board → Bool
+soundBoard n b = each n (λ i. soundMember n i (b .members i)) && soundHost n (b .host) (b .stored)
 
 -- the table's number: "board's n not 1 to 12 (before 2)"; its n is word 0, and an empty table's is 0
-unfoldable pub tableNumber : Kind → List ℕ → ℕ
-tableNumber kind l =
+unfoldable pub tableNumber : List ℕ → ℕ
+tableNumber l =
     let n = words l 0 in
-    cond (not (inside 12 n)) 3
+    cond (not (isSize n)) 3
     (cond (not (eqb (length l) (tableSize n))) 2
-    (cond (not (soundBoard kind n (boardOf n (words l)))) 3
+    (cond (not (soundBoard n (boardOf n (words l)))) 3
     0))
 
 -- the halves': of a part of some length that holds member i's block, and of one that holds the n host entries
-unfoldable pub blockNumber : Kind → ℕ → ℕ → ℕ → Member → ℕ
-blockNumber kind n i long m =
+unfoldable pub blockNumber : ℕ → ℕ → ℕ → Member → ℕ
+blockNumber n i long m =
     cond (not (eqb long (blockSize n))) 2
-    (cond (not (soundMember kind n i m)) 3
+    (cond (not (soundMember n i m)) 3
     0)
 
 unfoldable pub entriesNumber : ℕ → ℕ → (ℕ → Entry) → (ℕ → Rec) → ℕ

@@ -1,7 +1,7 @@
 -- The board's calls on a table of words, and runs of them: what the contracts of open, begin, deliver and crash cite, and what demand 3
 -- speaks of in the end. The board of a table is the one that its words decode to; word 0 is n.
 use Prim.Native.Nat.{ℕ, _+_}
-use mathlib.Core.Bool.{Bool, cond, not}
+use mathlib.Core.Bool.{cond, not}
 use mathlib.Core.List.{List, [], _∷_}
 use mathlib.Core.Option.{Option, none}
 use lib.Dec.{eqb}
@@ -16,14 +16,14 @@ use Rattle.model.specs.Table.{tableSize, blockAt, phaseAt, boardOf, tabl
 use Rattle.model.specs.Halves.{orElse, unlessRefused}
 
 -- "Opening makes checks 1 and 2 only, since it reads none of the old words."
-unfoldable pub openNumber : ℕ → List ℕ → ℕ
-openNumber n l =
-    cond (not (inside 12 n)) 1
+unfoldable pub openNumber : Kind → ℕ → List ℕ → ℕ
+openNumber kind n l =
+    cond (not (inside (kind .most) n)) 1
     (cond (not (eqb (length l) (tableSize n))) 2
     0)
 
-unfoldable pub openWords : ℕ → List ℕ → List ℕ
-openWords n l = unlessRefused (openNumber n l) l (tableWords n (opened n))
+unfoldable pub openWords : Kind → ℕ → List ℕ → List ℕ
+openWords kind n l = unlessRefused (openNumber kind n l) l (tableWords n (opened n))
 
 -- the board that a table holds
 unfoldable pub boardIn : List ℕ → Board
@@ -31,16 +31,16 @@ boardIn l = boardOf (words l 0) (words l)
 
 -- begin, deliver and crash: the table's own numbers, then the call's
 unfoldable pub tableAnswer : Kind → List ℕ → Call → ℕ
-tableAnswer kind l call = orElse (tableNumber kind l) (answerOf kind (words l 0) (boardIn l) call)
+tableAnswer kind l call = orElse (tableNumber l) (answerOf kind (words l 0) (boardIn l) call)
 
 unfoldable pub tableAfter : Kind → List ℕ → Call → List ℕ
 tableAfter kind l call =
     let n = words l 0 in
-    unlessRefused (tableAnswer kind l call) l (tableWords n (done kind n (boardIn l) call))
+    unlessRefused (tableAnswer kind l call) l (tableWords n (done n (boardIn l) call))
 
 -- the board that the table then holds: the model's step, or the one before where the call is refused
 unfoldable pub tableBoard : Kind → List ℕ → Call → Board
-tableBoard kind l call = cond (eqb (tableAnswer kind l call) 0) (done kind (words l 0) (boardIn l) call) (boardIn l)
+tableBoard kind l call = cond (eqb (tableAnswer kind l call) 0) (done (words l 0) (boardIn l) call) (boardIn l)
 
 unfoldable pub tableReturns : Kind → List ℕ → Call → Option Value
 tableReturns kind l call = cond (eqb (tableAnswer kind l call) 0) (doneReturns (boardIn l) call) none

@@ -3,7 +3,7 @@ ghost use mathlib.Core.Path.{_≡_};
 ghost use mathlib.Core.Bool.{_&&_};
 ghost use Rattle.model.specs.Records.{opening as openingOf, zeroRecord};
 ghost use Rattle.lists.specs.Functions.{inside};
-ghost use Rattle.model.specs.Kinds.{concur, isOperation, barred};
+ghost use Rattle.model.specs.Kinds.{isOperation, barred};
 ghost use Rattle.model.specs.Halves.{fitRecord};
 ghost use Rattle.records.specs.Meaning.{recordIn};
 use rows::Row;
@@ -37,7 +37,7 @@ pub fn is_operation(operation: u32) -> bool
 
 // What number 7 refuses: a write to another's slot or a read of one's own.
 pub fn is_barred(member: u32, slot: u32, operation: u32) -> bool
-    ensures { λ r. ⌜ r ≡ barred concur member slot operation ⌝ }
+    ensures { λ r. ⌜ r ≡ barred member slot operation ⌝ }
 {
     if operation == WRITE {
         return member != slot;

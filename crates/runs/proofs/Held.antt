@@ -323,7 +323,7 @@ CallHeld (begin i r t v) = ValueHeld v
 CallHeld (deliver i) = Unit {0}
 CallHeld (crash i) = Unit {0}
 
-module _ (kind : Kind) (n : ℕ) (b : Board) (s : SoundBoard kind n b) (h : HeldBoard n b) (i : ℕ) (p : inside n i ≡ true) where
+module _ (n : ℕ) (b : Board) (s : SoundBoard n b) (h : HeldBoard n b) (i : ℕ) (p : inside n i ≡ true) where
   mine : HeldMember n (b .members i)
   mine = h .members i p
 
@@ -358,7 +358,7 @@ module _ (kind : Kind) (n : ℕ) (b : Board) (s : SoundBoard kind n b) (h : Held
     matrix = ap (λ r. r .matrix) (first-held mine) t;
   }
 
-  commit-held : b .members i .phase ≡ 3 → HeldBoard n (commitTaken kind b i)
+  commit-held : b .members i .phase ≡ 3 → HeldBoard n (commitTaken b i)
   unfolding commitTaken entryAfter storedAfter withMember
   commit-held e =
       let m = b .members i in
@@ -367,30 +367,30 @@ module _ (kind : Kind) (n : ℕ) (b : Board) (s : SoundBoard kind n b) (h : Held
       let q = slot-inside (inside-in 5 (m .phase) (omega arith) (omega arith)) in
       let won = wins (b .host r) c in
       slot-held n (withMember b i (judged m won)) (member-held n b h i (judged m won) p (judged-held won mine)) r
-      (entryAfter (b .host r) c) (storedAfter kind (b .host r) (b .stored r) c) q
+      (entryAfter (b .host r) c) (storedAfter (b .host r) (b .stored r) c) q
       (split (λ (e : Entry). recordWithin n (e .newest) ≡ e .newest) (record { submitMember = 0; submitCount = 0; newest = c }) (b .host r) won
       sent-held (h .newest r))
-      (split (λ (s : Rec). recordWithin n s ≡ s) c (b .stored r) (won && becomesStored kind c) sent-held (h .stored r))
+      (split (λ (s : Rec). recordWithin n s ≡ s) c (b .stored r) (won && becomesStored c) sent-held (h .stored r))
     where
       split : {A : Type 0} (Q : A → Type 0) (x y : A) (t : Bool) → Q x → Q y → Q (cond t x y)
       split Q x y true a c = a
       split Q x y false a c = c
 
-  deliver-held : (b .members i .phase ≡ 0 → ⊥) → (b .members i .phase ≡ 6 → ⊥) → HeldBoard n (boardDelivered kind n b i)
+  deliver-held : (b .members i .phase ≡ 0 → ⊥) → (b .members i .phase ≡ 6 → ⊥) → HeldBoard n (boardDelivered n b i)
   unfolding outcomeTaken
   deliver-held z six = by-phase (b .members i .phase) z (let g = s .members i p .phase in omega arith)
-      (λ e. rw (board-phase kind n b i 1 e) (submit-held e))
-      (λ e. rw (board-phase kind n b i 2 e) (reply-held e))
-      (λ e. rw (board-phase kind n b i 3 e) (commit-held e))
-      (λ e. rw (board-phase kind n b i 4 e) (ended true e (omega arith) (omega arith)))
-      (λ e. rw (board-phase kind n b i 5 e) (ended false e (omega arith) (omega arith)))
+      (λ e. rw (board-phase n b i 1 e) (submit-held e))
+      (λ e. rw (board-phase n b i 2 e) (reply-held e))
+      (λ e. rw (board-phase n b i 3 e) (commit-held e))
+      (λ e. rw (board-phase n b i 4 e) (ended true e (omega arith) (omega arith)))
+      (λ e. rw (board-phase n b i 5 e) (ended false e (omega arith) (omega arith)))
     where
       ended : (won : Bool) {q : ℕ} → b .members i .phase ≡ q → 1 ≤ q → q ≤ 5 → HeldBoard n (withMember b i (outcome (b .members i) won))
       ended won e low high = member-held n b h i (outcome (b .members i) won) p
           (outcome-held won mine (slot-inside (inside-in 5 (b .members i .phase) (omega arith) (omega arith))))
 
-pub done-held : (kind : Kind) (n : ℕ) (b : Board) (call : Call) → SoundBoard kind n b → HeldBoard n b → CallHeld call
-    → answerOf kind n b call ≡ 0 → HeldBoard n (done kind n b call)
+pub done-held : (kind : Kind) (n : ℕ) (b : Board) (call : Call) → SoundBoard n b → HeldBoard n b → CallHeld call
+    → answerOf kind n b call ≡ 0 → HeldBoard n (done n b call)
 unfolding answerOf done boardBegun boardCrashed
 done-held kind n b (begin i r t v) s h v8 a =
     let m = b .members i in
@@ -399,7 +399,7 @@ done-held kind n b (begin i r t v) s h v8 a =
 done-held kind n b (deliver i) s h _ a =
     let m = b .members i in
     let k = deliver-taken n (m .phase) (m .crashed) i a in
-    deliver-held kind n b s h i (k .member) (k .notIdle) (k .notHalted)
+    deliver-held n b s h i (k .member) (k .notIdle) (k .notHalted)
 done-held kind n b (crash i) s h _ a =
     let m = b .members i in
     let k = crash-taken n (m .phase) (m .crashed) i a in

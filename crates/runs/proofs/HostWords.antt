@@ -14,7 +14,7 @@ use Rattle.lists.proofs.Functions.{on, both, apart, put-same, put-all, put-both
 use Rattle.lists.proofs.Pieces.{pieces-laid}
 use Rattle.model.specs.Records.{Rec, read, write, zeroRecord, recordWithin}
 use Rattle.model.specs.RecordWords.{recordWords}
-use Rattle.model.specs.Kinds.{Kind, isOperation, barred, becomesStored}
+use Rattle.model.specs.Kinds.{isSize, isOperation, barred, becomesStored}
 use Rattle.model.specs.Host.{Entry, submitted, wins, entryAfter, storedAfter}
 use Rattle.model.specs.Board.{noEntry}
 use Rattle.lists.specs.Every.{Every}
@@ -76,11 +76,11 @@ record Kept (n : ℕ) (h : Half) : Type 0 where
   storedOff : (r : ℕ) → inside n r ≡ false → h .stored r ≡ zeroRecord
   slots : (r : ℕ) → inside n r ≡ true → SoundSlot n (h .host r) (h .stored r)
 
-opened-kept : (kind : Kind) (n : ℕ) → Kept n (halfOpened n)
+opened-kept : (n : ℕ) → Kept n (halfOpened n)
 unfolding halfOpened
-opened-kept kind n =
+opened-kept n =
     let h = opened-held n in
-    record { newest = h .newest; hostOff = h .hostOff; stored = h .stored; storedOff = h .storedOff; slots = opened-sound kind n .slots }
+    record { newest = h .newest; hostOff = h .hostOff; stored = h .stored; storedOff = h .storedOff; slots = opened-sound n .slots }
 
 abbrev wordsOf : ℕ → Half → List ℕ
 wordsOf n h = hostWords n (h .host) (h .stored)
@@ -117,9 +117,9 @@ none-holds true true false d = refl
 none-holds true true true false = refl
 none-holds true true true true = refl
 
-module _ (kind : Kind) (n : ℕ) (size : inside 12 n ≡ true) (h : Half) (k : Kept n h) where
+module _ (n : ℕ) (size : isSize n ≡ true) (h : Half) (k : Kept n h) where
   -- a call's number: none of its own words' grounds holds, so it is 0 exactly where the fields fit
-  fields-number : (id : Id) → eqb (hostNumber kind n (wordsOf n h) (id .client) (id .reg) (id .operation)) 0 ≡ fits kind n id
+  fields-number : (id : Id) → eqb (hostNumber n (wordsOf n h) (id .client) (id .reg) (id .operation)) 0 ≡ fits n id
   unfolding hostNumber entriesNumber fits
   fields-number id = rw (
     size,
@@ -131,28 +131,28 @@ module _ (kind : Kind) (n : ℕ) (size : inside 12 n ≡ true) (h : Half) (k : K
       (inside n (id .client))
       (inside n (id .reg))
       (isOperation (id .operation))
-      (barred kind (id .client) (id .reg) (id .operation)))
+      (barred (id .client) (id .reg) (id .operation)))
 
-  same-number : (message : ToServer) → eqb (callNumber kind n (wordsOf n h) message) 0 ≡ fits kind n (idIn message)
+  same-number : (message : ToServer) → eqb (callNumber n (wordsOf n h) message) 0 ≡ fits n (idIn message)
   unfolding callNumber commitNumber idIn idOf
   same-number (submit id) = fields-number id
   same-number (commit op) = fields-number (idOf op)
 
   -- a call that is refused leaves the words
-  refused-words : (message : ToServer) → fits kind n (idIn message) ≡ false → callWords kind n (wordsOf n h) message ≡ wordsOf n h
+  refused-words : (message : ToServer) → fits n (idIn message) ≡ false → callWords n (wordsOf n h) message ≡ wordsOf n h
   unfolding callWords submitWords commitWords commitNumber idIn idOf
   refused-words (submit id) f = rw (fields-number id, f)
   refused-words (commit op) f = rw (fields-number (idOf op), f)
 
   -- one that is not leaves the words of the half after it, and hands back its answer
-  same-words : (message : ToServer) → fits kind n (idIn message) ≡ true
-      → callWords kind n (wordsOf n h) message ≡ wordsOf n (halfAfter kind h message)
+  same-words : (message : ToServer) → fits n (idIn message) ≡ true
+      → callWords n (wordsOf n h) message ≡ wordsOf n (halfAfter h message)
   unfolding callWords submitWords commitWords commitNumber idIn idOf halfAfter
   same-words (submit id) f = rw (fields-number id, f, host-read n h k, stored-records-read n h k)
   same-words (commit op) f = rw (fields-number (idOf op), f, host-read n h k, stored-records-read n h k)
 
-  same-answer : (message : ToServer) → fits kind n (idIn message) ≡ true
-      → callAnswer kind n (wordsOf n h) message ≡ halfAnswer h message
+  same-answer : (message : ToServer) → fits n (idIn message) ≡ true
+      → callAnswer n (wordsOf n h) message ≡ halfAnswer h message
   unfolding callAnswer submitNewest submitStored commitOutcome commitNumber idIn idOf halfAnswer
   same-answer (submit id) f =
       ap₂ (λ stored host. submitR (stored (id .reg)) (host (id .reg) .newest)) (stored-records-read n h k) (host-read n h k)
@@ -170,72 +170,72 @@ module _ (kind : Kind) (n : ℕ) (size : inside 12 n ≡ true) (h : Half) (k : K
     slots = put-both (λ j e s. inside n j ≡ true → SoundSlot n e s) (h .host) (h .stored) r e s (λ q. c) (λ j d. k .slots j);
   }
 
-  submit-kept : (id : Id) → fits kind n id ≡ true → Kept n (halfAfter kind h (submit id))
+  submit-kept : (id : Id) → fits n id ≡ true → Kept n (halfAfter h (submit id))
   unfolding halfAfter submitted
   submit-kept id f =
-      let p = fit-parts kind n id f in
+      let p = fit-parts n id f in
       let r = id .reg in
       let s = k .slots r (p .1) in
       let e = submitted (h .host r) (id .client) (id .count) in
       rw (put-same (h .stored) r) at
       (slot-kept r e (h .stored r) (p .1) (k .newest r) (k .stored r) (inside-high n (id .client) (p .0), s .1, s .2))
 
-  commit-kept : (op : Rec) → fits kind n (idOf op) ≡ true → recordWithin n op ≡ op → Kept n (halfAfter kind h (commit op))
+  commit-kept : (op : Rec) → fits n (idOf op) ≡ true → recordWithin n op ≡ op → Kept n (halfAfter h (commit op))
   unfolding halfAfter entryAfter storedAfter idOf
   commit-kept op f held =
-      let p = fit-parts kind n (idOf op) f in
+      let p = fit-parts n (idOf op) f in
       let r = op .slot in
       let e = h .host r in
       let s = k .slots r (p .1) in
-      slot-kept r (entryAfter e op) (storedAfter kind e (h .stored r) op) (p .1)
+      slot-kept r (entryAfter e op) (storedAfter e (h .stored r) op) (p .1)
       (on (wins e op) (λ t. rw t held) (λ t. rw t (k .newest r)))
-      (on (wins e op && becomesStored kind op) (λ t. rw t held) (λ t. rw t (k .stored r))) (
+      (on (wins e op && becomesStored op) (λ t. rw t held) (λ t. rw t (k .stored r))) (
         on (wins e op) (λ t. rw t (omega arith)) (λ t. rw t (s .0)),
-        on (wins e op && becomesStored kind op) (λ t. rw t op-sound) (λ t. rw t (s .1)),
+        on (wins e op && becomesStored op) (λ t. rw t op-sound) (λ t. rw t (s .1)),
         on (wins e op) (λ t. rw t op-sound) (λ t. rw t (s .2)),
       )
     where
       op-sound : soundRecord n op ≡ true
       op-sound =
-          let p = fit-parts kind n (idOf op) f in
+          let p = fit-parts n (idOf op) f in
           record-sound (record {
             member = inside-high n (op .member) (p .0);
             slot = inside-high n (op .slot) (p .1);
             operation = operation-small (op .operation) (p .2) .1;
           })
 
-  message-kept : (message : ToServer) → fits kind n (idIn message) ≡ true → MessageHeld n message → Kept n (halfAfter kind h message)
+  message-kept : (message : ToServer) → fits n (idIn message) ≡ true → MessageHeld n message → Kept n (halfAfter h message)
   unfolding idIn
   message-kept (submit id) f held = submit-kept id f
   message-kept (commit op) f held = commit-kept op f held
 
-same-answers : (kind : Kind) (n : ℕ) → inside 12 n ≡ true → (messages : List ToServer) → Every (MessageHeld n) messages
+same-answers : (n : ℕ) → isSize n ≡ true → (messages : List ToServer) → Every (MessageHeld n) messages
     → (h : Half) → Kept n h
-    → halfAnswers kind h (taken kind n messages) ≡ callAnswers kind n (wordsOf n h) messages
+    → halfAnswers h (taken n messages) ≡ callAnswers n (wordsOf n h) messages
 unfolding taken callAnswers halfAnswers
-same-answers kind n size [] v h k = refl
-same-answers kind n size (message ∷ messages) v h k = on (fits kind n (idIn message))
-    (λ f. rw (same-number kind n size h k message, f) (ap₂ _∷_
-    (sym (same-answer kind n size h k message f))
-    (same-answers kind n size messages (v .1) (halfAfter kind h message) (message-kept kind n size h k message f (v .0))
-    ∙ ap (λ l. callAnswers kind n l messages) (sym (same-words kind n size h k message f)))))
-    (λ f. rw (same-number kind n size h k message, f, refused-words kind n size h k message f)
-    (same-answers kind n size messages (v .1) h k))
+same-answers n size [] v h k = refl
+same-answers n size (message ∷ messages) v h k = on (fits n (idIn message))
+    (λ f. rw (same-number n size h k message, f) (ap₂ _∷_
+    (sym (same-answer n size h k message f))
+    (same-answers n size messages (v .1) (halfAfter h message) (message-kept n size h k message f (v .0))
+    ∙ ap (λ l. callAnswers n l messages) (sym (same-words n size h k message f)))))
+    (λ f. rw (same-number n size h k message, f, refused-words n size h k message f)
+    (same-answers n size messages (v .1) h k))
 
-taken-fit : (kind : Kind) (n : ℕ) (messages : List ToServer) → allFit kind n (taken kind n messages) ≡ true
+taken-fit : (n : ℕ) (messages : List ToServer) → allFit n (taken n messages) ≡ true
 unfolding taken allFit
-taken-fit kind n [] = refl
-taken-fit kind n (message ∷ messages) = on (fits kind n (idIn message))
-    (λ f. rw f (both f (taken-fit kind n messages)))
-    (λ f. rw f (taken-fit kind n messages))
+taken-fit n [] = refl
+taken-fit n (message ∷ messages) = on (fits n (idIn message))
+    (λ f. rw f (both f (taken-fit n messages)))
+    (λ f. rw f (taken-fit n messages))
 
-pub words-as-published : (kind : Kind) (n : ℕ) → inside 12 n ≡ true → (messages : List ToServer) → Every (MessageHeld n) messages
-    → WordsAsPublished kind n messages
+pub words-as-published : (n : ℕ) → isSize n ≡ true → (messages : List ToServer) → Every (MessageHeld n) messages
+    → WordsAsPublished n messages
 unfolding entriesOpened halfOpened
-words-as-published kind n size messages v =
-    let p = half-as-published kind n (taken kind n messages) in
-    let fit = taken-fit kind n messages in
-    let same = same-answers kind n size messages v (halfOpened n) (opened-kept kind n) in
+words-as-published n size messages v =
+    let p = half-as-published n (taken n messages) in
+    let fit = taken-fit n messages in
+    let same = same-answers n size messages v (halfOpened n) (opened-kept n) in
     record { noted = p .noted fit ∙ same; printed = λ once. p .printed fit once ∙ same }
 
 -- the contract of the half's commit hands every record on so: what is cut to a board of n is cut once and for all
@@ -282,16 +282,16 @@ strayed-held = (
   ),
 )
 
-strayed-taken : (kind : Kind) → taken kind 2 strayed ≡ sample
+strayed-taken : taken 2 strayed ≡ sample
 unfolding taken strayed sample fits idIn idOf inside isOperation barred onSlot1
-strayed-taken kind = refl
+strayed-taken = refl
 
-pub sample-in-words : (kind : Kind) → SampleInWords kind
-sample-in-words kind =
-    let s = sample-holds kind in
-    let p = words-as-published kind 2 (inside-in 12 2 (omega arith) (omega arith)) strayed strayed-held in
+pub sample-in-words : SampleInWords
+sample-in-words =
+    let s = sample-holds in
+    let p = words-as-published 2 (inside-in 12 2 (omega arith) (omega arith)) strayed strayed-held in
     record {
       held = strayed-held;
-      refused = strayed-taken kind;
-      answers = sym (rw (strayed-taken kind) at (p .printed (ap (eachOnce noneWaiting) (strayed-taken kind) ∙ s .once))) ∙ s .server;
+      refused = strayed-taken;
+      answers = sym (rw (strayed-taken) at (p .printed (ap (eachOnce noneWaiting) (strayed-taken) ∙ s .once))) ∙ s .server;
     }

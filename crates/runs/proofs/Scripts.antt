@@ -64,12 +64,12 @@ calls-held (line ∷ lines) = with-held (lineOf line) (callsOf lines) (calls-hel
 
 -- Whole scripts.
 
-module _ (kind : Kind) (n : ℕ) (size : inside 12 n ≡ true) where
-  open-taken : openNumber n (tableWords n (opened n)) ≡ 0
+module _ (kind : Kind) (n : ℕ) (size : inside (kind .most) n ≡ true) where
+  open-taken : openNumber kind n (tableWords n (opened n)) ≡ 0
   unfolding openNumber
   open-taken = rw (size, eq-eqb (length (tableWords n (opened n))) (tableSize n) (length-table n (opened n)))
 
-  open-left : openWords n (tableWords n (opened n)) ≡ tableWords n (opened n)
+  open-left : openWords kind n (tableWords n (opened n)) ≡ tableWords n (opened n)
   unfolding openWords
   open-left = rw open-taken
 

@@ -28,10 +28,10 @@ operation-small t h = on (eqb t read)
     (λ e. let d : t ≡ 1 = eqb-true t read e in (omega arith, omega arith))
     (λ e. let d : t ≡ 2 = eqb-true t write (rw e at h) in (omega arith, omega arith))
 
-begun-sound : (kind : Kind) (n i : ℕ) (m : Member) (r t : ℕ) (v : Value) → Parts kind n i m
-    → inside n r ≡ true → isOperation t ≡ true → barred kind i r t ≡ false → Parts kind n i (begun m r t v)
+begun-sound : (n i : ℕ) (m : Member) (r t : ℕ) (v : Value) → Parts n i m
+    → inside n r ≡ true → isOperation t ≡ true → barred i r t ≡ false → Parts n i (begun m r t v)
 unfolding begun
-begun-sound kind n i m r t v s p q b =
+begun-sound n i m r t v s p q b =
     let o = operation-small t q in
     record {
       phase = omega arith;
@@ -45,9 +45,9 @@ begun-sound kind n i m r t v s p q b =
     }
 
 -- a step within an operation, to phase 2 to 5 or to a halt
-moved-sound : (kind : Kind) (n i : ℕ) (m : Member) (p h : ℕ) (one two : Rec) → Parts kind n i m → inside 5 (m .phase) ≡ true
-    → p ≤ 6 → halts h ≡ true → soundRecord n one ≡ true → soundRecord n two ≡ true → Parts kind n i (moved m p h one two)
-moved-sound kind n i m p h one two s running small number g k = record {
+moved-sound : (n i : ℕ) (m : Member) (p h : ℕ) (one two : Rec) → Parts n i m → inside 5 (m .phase) ≡ true
+    → p ≤ 6 → halts h ≡ true → soundRecord n one ≡ true → soundRecord n two ≡ true → Parts n i (moved m p h one two)
+moved-sound n i m p h one two s running small number g k = record {
   phase = small;
   crashed = s .crashed;
   halt = number;
@@ -62,9 +62,9 @@ zero-sound : (n : ℕ) → soundRecord n zeroRecord ≡ true
 unfolding soundRecord zeroRecord
 zero-sound n = both (both (le-leb 0 n (omega arith)) (le-leb 0 n (omega arith))) refl
 
-dropped-sound : (kind : Kind) (n i : ℕ) (m : Member) → Parts kind n i m → Parts kind n i (dropped m)
+dropped-sound : (n i : ℕ) (m : Member) → Parts n i m → Parts n i (dropped m)
 unfolding dropped
-dropped-sound kind n i m s = record {
+dropped-sound n i m s = record {
   phase = omega arith;
   crashed = s .crashed;
   halt = s .halt;
@@ -75,14 +75,14 @@ dropped-sound kind n i m s = record {
   stored = zero-sound n;
 }
 
-outcome-sound : (kind : Kind) (n i : ℕ) (m : Member) (won : Bool) → Parts kind n i m → Parts kind n i (outcome m won)
+outcome-sound : (n i : ℕ) (m : Member) (won : Bool) → Parts n i m → Parts n i (outcome m won)
 unfolding outcome completed tookOver
-outcome-sound kind n i m true s = dropped-sound kind n i (tookOver m) s
-outcome-sound kind n i m false s = dropped-sound kind n i m s
+outcome-sound n i m true s = dropped-sound n i (tookOver m) s
+outcome-sound n i m false s = dropped-sound n i m s
 
-crashed-sound : (kind : Kind) (n i : ℕ) (m : Member) → Parts kind n i m → Parts kind n i (crashedOf m)
+crashed-sound : (n i : ℕ) (m : Member) → Parts n i m → Parts n i (crashedOf m)
 unfolding crashedOf
-crashed-sound kind n i m s = record {
+crashed-sound n i m s = record {
   phase = s .phase;
   crashed = omega arith;
   halt = s .halt;
@@ -112,80 +112,80 @@ halt-small n i m newest stored seals = first-failing (check21 seals)
     (check25 n (m .slot) (stored .matrix) (newest .matrix)) (check26 n (m .slot) (m .known) (newest .matrix))
     (check27 n i (m .slot) (m .accepted) (newest .matrix))
 
-own-sound : (kind : Kind) (n i : ℕ) (m : Member) (newest : Rec) → Parts kind n i m → inside n i ≡ true → soundRecord n (ownRecord n i m newest) ≡ true
+own-sound : (n i : ℕ) (m : Member) (newest : Rec) → Parts n i m → inside n i ≡ true → soundRecord n (ownRecord n i m newest) ≡ true
 unfolding ownRecord
-own-sound kind n i m newest s p = record-sound (record { member = inside-high n i p; slot = s .slot; operation = s .operation })
+own-sound n i m newest s p = record-sound (record { member = inside-high n i p; slot = s .slot; operation = s .operation })
 
-replied-sound : (kind : Kind) (n i : ℕ) (m : Member) (newest stored : Rec) (seals : ℕ) → Parts kind n i m → inside 5 (m .phase) ≡ true
-    → inside n i ≡ true → soundRecord n stored ≡ true → Parts kind n i (replied n i m newest stored seals)
+replied-sound : (n i : ℕ) (m : Member) (newest stored : Rec) (seals : ℕ) → Parts n i m → inside 5 (m .phase) ≡ true
+    → inside n i ≡ true → soundRecord n stored ≡ true → Parts n i (replied n i m newest stored seals)
 unfolding replied passed failed
-replied-sound kind n i m newest stored seals s running p two = pick (passed n i m newest stored) (failed m number) (eqb number 0)
-    (moved-sound kind n i m 3 (m .halt) (ownRecord n i m newest) stored s running (omega arith) (s .halt) (own-sound kind n i m newest s p) two)
-    (moved-sound kind n i m 6 number zeroRecord zeroRecord s running (omega arith) (halt-small n i m newest stored seals) (zero-sound n) (zero-sound n))
+replied-sound n i m newest stored seals s running p two = pick (passed n i m newest stored) (failed m number) (eqb number 0)
+    (moved-sound n i m 3 (m .halt) (ownRecord n i m newest) stored s running (omega arith) (s .halt) (own-sound n i m newest s p) two)
+    (moved-sound n i m 6 number zeroRecord zeroRecord s running (omega arith) (halt-small n i m newest stored seals) (zero-sound n) (zero-sound n))
   where
     number : ℕ
     number = haltNumber n i m newest stored seals
 
-    pick : (a b : Member) (t : Bool) → Parts kind n i a → Parts kind n i b → Parts kind n i (cond t a b)
+    pick : (a b : Member) (t : Bool) → Parts n i a → Parts n i b → Parts n i (cond t a b)
     pick a b true x y = x
     pick a b false x y = y
 
 -- The board: its members and slots changed.
 
 -- one member changed
-member-changed : (kind : Kind) (n : ℕ) (b : Board) (i : ℕ) (m : Member) → SoundBoard kind n b → Parts kind n i m
-    → SoundBoard kind n (withMember b i m)
+member-changed : (n : ℕ) (b : Board) (i : ℕ) (m : Member) → SoundBoard n b → Parts n i m
+    → SoundBoard n (withMember b i m)
 unfolding withMember
-member-changed kind n b i m s h = record {
-  members = put-all (λ k m. inside n k ≡ true → Parts kind n k m) (b .members) i m (λ p. h) (λ k d. s .members k);
+member-changed n b i m s h = record {
+  members = put-all (λ k m. inside n k ≡ true → Parts n k m) (b .members) i m (λ p. h) (λ k d. s .members k);
   slots = s .slots;
 }
 
 -- one member and one slot changed
-slot-changed : (kind : Kind) (n : ℕ) (b : Board) (i r : ℕ) (m : Member) (e : Entry) (stored : Rec) → SoundBoard kind n b → Parts kind n i m
+slot-changed : (n : ℕ) (b : Board) (i r : ℕ) (m : Member) (e : Entry) (stored : Rec) → SoundBoard n b → Parts n i m
     → SoundSlot n e stored
-    → SoundBoard kind n (record { members = put (b .members) i m; host = put (b .host) r e; stored = put (b .stored) r stored })
-slot-changed kind n b i r m e stored s h g = record {
-  members = put-all (λ k m. inside n k ≡ true → Parts kind n k m) (b .members) i m (λ p. h) (λ k d. s .members k);
+    → SoundBoard n (record { members = put (b .members) i m; host = put (b .host) r e; stored = put (b .stored) r stored })
+slot-changed n b i r m e stored s h g = record {
+  members = put-all (λ k m. inside n k ≡ true → Parts n k m) (b .members) i m (λ p. h) (λ k d. s .members k);
   slots = put-both (λ k e stored. inside n k ≡ true → SoundSlot n e stored) (b .host) (b .stored) r e stored (λ p. g) (λ k d. s .slots k);
 }
 
 -- Deliver, phase by phase.
 
-module _ (kind : Kind) (n : ℕ) (b : Board) (s : SoundBoard kind n b) (i : ℕ) (p : inside n i ≡ true) where
-  mine : Parts kind n i (b .members i)
+module _ (n : ℕ) (b : Board) (s : SoundBoard n b) (i : ℕ) (p : inside n i ≡ true) where
+  mine : Parts n i (b .members i)
   mine = s .members i p
 
   -- an operation under way has a slot of the board
   slot-in : inside 5 (b .members i .phase) ≡ true → inside n (b .members i .slot) ≡ true
   slot-in h = inside-in n (b .members i .slot) (mine .operates h .slotLeast) (mine .slot)
 
-  submit-sound : b .members i .phase ≡ 1 → SoundBoard kind n (submitTaken b i)
+  submit-sound : b .members i .phase ≡ 1 → SoundBoard n (submitTaken b i)
   unfolding submitTaken answered submitted
   submit-sound e =
       let running : inside 5 (b .members i .phase) ≡ true = inside-in 5 (b .members i .phase) (omega arith) (omega arith) in
       let r = b .members i .slot in
       let g = s .slots r (slot-in running) in
       record {
-        members = put-all (λ k m. inside n k ≡ true → Parts kind n k m) (b .members) i (answered (b .members i) (b .host r .newest) (b .stored r))
-            (λ q. moved-sound kind n i (b .members i) 2 (b .members i .halt) (b .host r .newest) (b .stored r) mine running (omega arith) (mine .halt) (g .2) (g .1))
+        members = put-all (λ k m. inside n k ≡ true → Parts n k m) (b .members) i (answered (b .members i) (b .host r .newest) (b .stored r))
+            (λ q. moved-sound n i (b .members i) 2 (b .members i .halt) (b .host r .newest) (b .stored r) mine running (omega arith) (mine .halt) (g .2) (g .1))
             (λ k d. s .members k);
         slots = put-all (λ k e. inside n k ≡ true → SoundSlot n e (b .stored k)) (b .host) r (submitted (b .host r) i (b .members i .own r))
             (λ q. (inside-high n i p, g .1, g .2)) (λ k d. s .slots k);
       }
 
-  reply-sound : b .members i .phase ≡ 2 → SoundBoard kind n (replyTaken n b i)
+  reply-sound : b .members i .phase ≡ 2 → SoundBoard n (replyTaken n b i)
   unfolding replyTaken
   reply-sound e =
       let m = b .members i in
-      member-changed kind n b i (replied n i m (m .first) (m .second) 3) s
-      (replied-sound kind n i m (m .first) (m .second) 3 mine (inside-in 5 (m .phase) (omega arith) (omega arith)) p (mine .stored))
+      member-changed n b i (replied n i m (m .first) (m .second) 3) s
+      (replied-sound n i m (m .first) (m .second) 3 mine (inside-in 5 (m .phase) (omega arith) (omega arith)) p (mine .stored))
 
   sent-sound : soundRecord n (sentRecord i (b .members i)) ≡ true
   unfolding sentRecord
   sent-sound = record-sound (record { member = inside-high n i p; slot = mine .slot; operation = mine .operation })
 
-  commit-sound : b .members i .phase ≡ 3 → SoundBoard kind n (commitTaken kind b i)
+  commit-sound : b .members i .phase ≡ 3 → SoundBoard n (commitTaken b i)
   unfolding commitTaken judged entryAfter storedAfter
   commit-sound e =
       let m = b .members i in
@@ -193,10 +193,10 @@ module _ (kind : Kind) (n : ℕ) (b : Board) (s : SoundBoard kind n b) (i : ℕ)
       let c = sentRecord i m in
       let running : inside 5 (m .phase) ≡ true = inside-in 5 (m .phase) (omega arith) (omega arith) in
       let g = s .slots r (slot-in running) in
-      slot-changed kind n b i r (judged m (wins (b .host r) c)) (entryAfter (b .host r) c) (storedAfter kind (b .host r) (b .stored r) c) s
-      (moved-sound kind n i m (cond (wins (b .host r) c) 4 5) (m .halt) (m .first) (m .second) mine running
+      slot-changed n b i r (judged m (wins (b .host r) c)) (entryAfter (b .host r) c) (storedAfter (b .host r) (b .stored r) c) s
+      (moved-sound n i m (cond (wins (b .host r) c) 4 5) (m .halt) (m .first) (m .second) mine running
       (phases (wins (b .host r) c)) (mine .halt) (mine .newest) (mine .stored))
-      (entry-kept (wins (b .host r) c) g, stored-kept (wins (b .host r) c && becomesStored kind c) (g .1), newest-kept (wins (b .host r) c) (g .2))
+      (entry-kept (wins (b .host r) c) g, stored-kept (wins (b .host r) c && becomesStored c) (g .1), newest-kept (wins (b .host r) c) (g .2))
     where
       phases : (t : Bool) → cond t 4 5 ≤ 6
       phases true = omega arith
@@ -221,38 +221,38 @@ module _ (kind : Kind) (n : ℕ) (b : Board) (s : SoundBoard kind n b) (i : ℕ)
       newest-kept true g = sent-sound
       newest-kept false g = g
 
-  outcome-kept : (won : Bool) → SoundBoard kind n (outcomeTaken b i won)
+  outcome-kept : (won : Bool) → SoundBoard n (outcomeTaken b i won)
   unfolding outcomeTaken
-  outcome-kept won = member-changed kind n b i (outcome (b .members i) won) s (outcome-sound kind n i (b .members i) won mine)
+  outcome-kept won = member-changed n b i (outcome (b .members i) won) s (outcome-sound n i (b .members i) won mine)
 
-  deliver-sound : (b .members i .phase ≡ 0 → ⊥) → (b .members i .phase ≡ 6 → ⊥) → SoundBoard kind n (boardDelivered kind n b i)
+  deliver-sound : (b .members i .phase ≡ 0 → ⊥) → (b .members i .phase ≡ 6 → ⊥) → SoundBoard n (boardDelivered n b i)
   deliver-sound z six = by-phase (b .members i .phase) z (let h = mine .phase in omega arith)
-      (λ e. rw (board-phase kind n b i 1 e) (submit-sound e))
-      (λ e. rw (board-phase kind n b i 2 e) (reply-sound e))
-      (λ e. rw (board-phase kind n b i 3 e) (commit-sound e))
-      (λ e. rw (board-phase kind n b i 4 e) (outcome-kept true))
-      (λ e. rw (board-phase kind n b i 5 e) (outcome-kept false))
+      (λ e. rw (board-phase n b i 1 e) (submit-sound e))
+      (λ e. rw (board-phase n b i 2 e) (reply-sound e))
+      (λ e. rw (board-phase n b i 3 e) (commit-sound e))
+      (λ e. rw (board-phase n b i 4 e) (outcome-kept true))
+      (λ e. rw (board-phase n b i 5 e) (outcome-kept false))
 
 -- Every call.
-pub done-sound : (kind : Kind) (n : ℕ) (b : Board) (call : Call) → SoundBoard kind n b → answerOf kind n b call ≡ 0
-    → SoundBoard kind n (done kind n b call)
+pub done-sound : (kind : Kind) (n : ℕ) (b : Board) (call : Call) → SoundBoard n b → answerOf kind n b call ≡ 0
+    → SoundBoard n (done n b call)
 unfolding answerOf done boardBegun boardCrashed
 done-sound kind n b (begin i r t v) s h =
     let m = b .members i in
     let k = begin-taken kind n (m .phase) (m .crashed) (m .own r) i r t h in
-    member-changed kind n b i (begun m r t v) s (begun-sound kind n i m r t v (s .members i (k .member)) (k .slot) (k .operation) (k .allowed))
+    member-changed n b i (begun m r t v) s (begun-sound n i m r t v (s .members i (k .member)) (k .slot) (k .operation) (k .allowed))
 done-sound kind n b (deliver i) s h =
     let m = b .members i in
     let k = deliver-taken n (m .phase) (m .crashed) i h in
-    deliver-sound kind n b s i (k .member) (k .notIdle) (k .notHalted)
+    deliver-sound n b s i (k .member) (k .notIdle) (k .notHalted)
 done-sound kind n b (crash i) s h =
     let m = b .members i in
-    member-changed kind n b i (crashedOf m) s (crashed-sound kind n i m (s .members i (crash-taken n (m .phase) (m .crashed) i h)))
+    member-changed n b i (crashedOf m) s (crashed-sound n i m (s .members i (crash-taken n (m .phase) (m .crashed) i h)))
 
 -- The opening.
-pub opened-sound : (kind : Kind) (n : ℕ) → SoundBoard kind n (opened n)
+pub opened-sound : (n : ℕ) → SoundBoard n (opened n)
 unfolding opened idle within noEntry openingEntry opening zeroRecord soundRecord
-opened-sound kind n = record {
+opened-sound n = record {
   members = λ i p. record {
     phase = omega arith;
     crashed = omega arith;

@@ -11,8 +11,8 @@ use lib.ListN.{length}
 use borrow.Author.Tests.{eq-eqb, eqb-true}
 use Rattle.lists.specs.Functions.{inside, within, from}
 use Rattle.lists.specs.Parts.{words}
-use Rattle.lists.proofs.Functions.{on, inside-low, inside-high, within-at, within-off}
-use Rattle.model.specs.Kinds.{Kind}
+use Rattle.lists.proofs.Functions.{on, inside-low, inside-high, within-at, within-off, inside-in}
+use Rattle.model.specs.Kinds.{mostMembers, isSize, Kind}
 use Rattle.model.specs.Member.{Member, idle}
 use Rattle.model.specs.Board.{Board, opened}
 use Rattle.model.specs.Runs.{Call, begin, deliver, crash, Seen, answerOf, done, doneReturns, after, seenAt, run, boards}
@@ -27,38 +27,21 @@ use Rattle.laws.proofs.Sound.{SoundBoard, board-sound}
 use Rattle.runs.proofs.Sound.{done-sound, opened-sound}
 use Rattle.runs.proofs.Held.{HeldBoard, CallHeld, board-read, done-held, opened-held}
 
-module _ (kind : Kind) (n : ℕ) (size : inside 12 n ≡ true) where
+module _ (n : ℕ) where
   -- the table of a sound board that it can hold: no number of its own refuses it, and it decodes to that board
-  table-number : (b : Board) → SoundBoard kind n b → HeldBoard n b → tableNumber kind (tableWords n b) ≡ 0
+  table-number : isSize n ≡ true → (b : Board) → SoundBoard n b → HeldBoard n b → tableNumber (tableWords n b) ≡ 0
   unfolding tableNumber
-  table-number b s h = rw (
+  table-number size b s h = rw (
     table-zero n b,
     size,
     eq-eqb (length (tableWords n b)) (tableSize n) (length-table n b),
     board-read n b h,
-    board-sound kind n b s,
+    board-sound n b s,
   )
 
   pub board-in : (b : Board) → HeldBoard n b → boardIn (tableWords n b) ≡ b
   unfolding boardIn
   board-in b h = rw (table-zero n b) (board-read n b h)
-
-  -- a call's answer, what it leaves and what it returns are the board's
-  same-answer : (b : Board) → SoundBoard kind n b → HeldBoard n b → (call : Call)
-      → tableAnswer kind (tableWords n b) call ≡ answerOf kind n b call
-  unfolding tableAnswer
-  same-answer b s h call = rw (table-number b s h, board-in b h, table-zero n b)
-
-  pub same-after : (b : Board) → SoundBoard kind n b → HeldBoard n b → (call : Call)
-      → tableAfter kind (tableWords n b) call ≡ tableWords n (after kind n b call)
-  unfolding tableAfter after
-  same-after b s h call = rw (same-answer b s h call, board-in b h, table-zero n b)
-      (on (eqb (answerOf kind n b call) 0) (λ p. rw p) (λ p. rw p))
-
-  same-returns : (b : Board) → SoundBoard kind n b → HeldBoard n b → (call : Call)
-      → tableReturns kind (tableWords n b) call ≡ cond (eqb (answerOf kind n b call) 0) (doneReturns b call) none
-  unfolding tableReturns
-  same-returns b s h call = rw (same-answer b s h call, board-in b h)
 
   same-phases : (b : Board) → HeldBoard n b → phaseWords (tableWords n b) ≡ (λ k. b .members k .phase)
   unfolding phaseWords memberOf from idle
@@ -71,27 +54,45 @@ module _ (kind : Kind) (n : ℕ) (size : inside 12 n ≡ true) where
       within-off n 0 (λ k. words (tableWords n b) (blockAt n k + phaseAt)) k p
       ∙ sym (ap (λ m. m .phase) (h .membersOff k p))))
 
+module _ (kind : Kind) (n : ℕ) (size : isSize n ≡ true) where
+  -- a call's answer, what it leaves and what it returns are the board's
+  same-answer : (b : Board) → SoundBoard n b → HeldBoard n b → (call : Call)
+      → tableAnswer kind (tableWords n b) call ≡ answerOf kind n b call
+  unfolding tableAnswer
+  same-answer b s h call = rw (table-number n size b s h, board-in n b h, table-zero n b)
+
+  pub same-after : (b : Board) → SoundBoard n b → HeldBoard n b → (call : Call)
+      → tableAfter kind (tableWords n b) call ≡ tableWords n (after kind n b call)
+  unfolding tableAfter after
+  same-after b s h call = rw (same-answer b s h call, board-in n b h, table-zero n b)
+      (on (eqb (answerOf kind n b call) 0) (λ p. rw p) (λ p. rw p))
+
+  same-returns : (b : Board) → SoundBoard n b → HeldBoard n b → (call : Call)
+      → tableReturns kind (tableWords n b) call ≡ cond (eqb (answerOf kind n b call) 0) (doneReturns b call) none
+  unfolding tableReturns
+  same-returns b s h call = rw (same-answer b s h call, board-in n b h)
+
   -- the board after a call is again one that a table can hold
-  pub after-sound : (b : Board) → SoundBoard kind n b → (call : Call) → SoundBoard kind n (after kind n b call)
+  pub after-sound : (b : Board) → SoundBoard n b → (call : Call) → SoundBoard n (after kind n b call)
   unfolding after
   after-sound b s call = on (eqb (answerOf kind n b call) 0)
       (λ p. rw p (done-sound kind n b call s (eqb-true (answerOf kind n b call) 0 p))) (λ p. rw p s)
 
-  pub after-held : (b : Board) → SoundBoard kind n b → HeldBoard n b → (call : Call) → CallHeld call → HeldBoard n (after kind n b call)
+  pub after-held : (b : Board) → SoundBoard n b → HeldBoard n b → (call : Call) → CallHeld call → HeldBoard n (after kind n b call)
   unfolding after
   after-held b s h call v = on (eqb (answerOf kind n b call) 0)
       (λ p. rw p (done-held kind n b call s h v (eqb-true (answerOf kind n b call) 0 p))) (λ p. rw p h)
 
-  same-seen : (b : Board) → SoundBoard kind n b → HeldBoard n b → (call : Call) → CallHeld call
+  same-seen : (b : Board) → SoundBoard n b → HeldBoard n b → (call : Call) → CallHeld call
       → tableSeen kind (tableWords n b) call ≡ seenAt kind n b call
   unfolding tableSeen seenAt
   same-seen b s h call v = λ t. record {
     answer = same-answer b s h call t;
-    phases = (ap phaseWords (same-after b s h call) ∙ same-phases (after kind n b call) (after-held b s h call v)) t;
+    phases = (ap phaseWords (same-after b s h call) ∙ same-phases n (after kind n b call) (after-held b s h call v)) t;
     returned = same-returns b s h call t;
   }
 
-  pub same-run : (b : Board) → SoundBoard kind n b → HeldBoard n b → (calls : List Call) → Every CallHeld calls
+  pub same-run : (b : Board) → SoundBoard n b → HeldBoard n b → (calls : List Call) → Every CallHeld calls
       → tableRun kind (tableWords n b) calls ≡ run kind n b calls
   unfolding tableRun run
   same-run b s h [] v = refl
@@ -99,26 +100,33 @@ module _ (kind : Kind) (n : ℕ) (size : inside 12 n ≡ true) where
       (ap (λ l. tableRun kind l calls) (same-after b s h call)
       ∙ same-run (after kind n b call) (after-sound b s call) (after-held b s h call (v .0)) calls (v .1)) t
 
-  pub same-boards : (b : Board) → SoundBoard kind n b → HeldBoard n b → (calls : List Call) → Every CallHeld calls
+  pub same-boards : (b : Board) → SoundBoard n b → HeldBoard n b → (calls : List Call) → Every CallHeld calls
       → tableBoards kind (tableWords n b) calls ≡ boards kind n b calls
   unfolding tableBoards boards
   same-boards b s h [] v = refl
-  same-boards b s h (call ∷ calls) v = λ t. board-in b h t ∷
+  same-boards b s h (call ∷ calls) v = λ t. board-in n b h t ∷
       (ap (λ l. tableBoards kind l calls) (same-after b s h call)
       ∙ same-boards (after kind n b call) (after-sound b s call) (after-held b s h call (v .0)) calls (v .1)) t
 
-pub open-size : (n : ℕ) (l : List ℕ) → openNumber n l ≡ 0 → inside 12 n ≡ true
-unfolding openNumber
-open-size n l o = on (inside 12 n) (λ p. p) (λ p. absurd (let z : _≡_ {A = ℕ} 1 0 = rw p at o in omega arith))
+-- a board of a kind has one of the sizes that there are
+kind-size : (kind : Kind) (n : ℕ) → inside (kind .most) n ≡ true → isSize n ≡ true
+kind-size kind n p =
+    let most = kind .sized in
+    let high = inside-high (kind .most) n p in
+    inside-in mostMembers n (inside-low (kind .most) n p) (omega arith)
 
--- Demand 3 of every table that opening took, for every n from 1 to 12, and every list of calls whose values have 8 words.
-pub demand3-on-tables : (kind : Kind) (n : ℕ) (l : List ℕ) → openNumber n l ≡ 0 → (calls : List Call) → Every CallHeld calls
-    → Demand3 kind n calls (tableBoards kind (openWords n l) calls) (tableRun kind (openWords n l) calls)
+pub open-size : (kind : Kind) (n : ℕ) (l : List ℕ) → openNumber kind n l ≡ 0 → isSize n ≡ true
+unfolding openNumber
+open-size kind n l o = on (inside (kind .most) n) (kind-size kind n) (λ p. absurd (let z : _≡_ {A = ℕ} 1 0 = rw p at o in omega arith))
+
+-- Demand 3 of every table that opening took, for every kind, every n and every list of calls whose values have 8 words.
+pub demand3-on-tables : (kind : Kind) (n : ℕ) (l : List ℕ) → openNumber kind n l ≡ 0 → (calls : List Call) → Every CallHeld calls
+    → Demand3 kind n calls (tableBoards kind (openWords kind n l) calls) (tableRun kind (openWords kind n l) calls)
 unfolding openWords
 demand3-on-tables kind n l o calls v =
-    let size = open-size n l o in
+    let size = open-size kind n l o in
     rw (
       o,
-      same-boards kind n size (opened n) (opened-sound kind n) (opened-held n) calls v,
-      same-run kind n size (opened n) (opened-sound kind n) (opened-held n) calls v,
+      same-boards kind n size (opened n) (opened-sound n) (opened-held n) calls v,
+      same-run kind n size (opened n) (opened-sound n) (opened-held n) calls v,
     ) (demand3 kind n calls)

@@ -11,7 +11,7 @@ use borrow.Author.Tests.{eqb-true, eqb-false}
 use Rattle.lists.specs.Functions.{put, inside, numbered}
 use Rattle.lists.proofs.Functions.{on, inside-low, put-at, put-off}
 use Rattle.model.specs.Records.{zeroValue}
-use Rattle.model.specs.Kinds.{concur}
+use Rattle.model.specs.Kinds.{isSize, concur}
 use Rattle.model.specs.Board.{Board, opened}
 use Rattle.model.specs.Runs.{Call, Seen, begin, deliver, crash, after, run}
 use Rattle.lists.specs.Every.{Every}
@@ -29,12 +29,12 @@ use Rattle.runs.proofs.Sound.{opened-sound}
 use Rattle.runs.proofs.Held.{HeldBoard, ValueHeld, CallHeld, opened-held}
 use Rattle.runs.proofs.Tables.{board-in, same-after, after-sound, after-held, same-run, open-size}
 
-module _ (n : ℕ) (size : inside 12 n ≡ true) where
+module _ (n : ℕ) (size : isSize n ≡ true) where
   -- what a list of calls leaves of the table is what it leaves of the board
-  same-left : (b : Board) → SoundBoard concur n b → HeldBoard n b → (calls : List Call) → Every CallHeld calls
+  same-left : (b : Board) → SoundBoard n b → HeldBoard n b → (calls : List Call) → Every CallHeld calls
       → boardIn (tableLeft (tableWords n b) calls) ≡ left n b calls
   unfolding tableLeft left
-  same-left b s h [] v = board-in concur n size b h
+  same-left b s h [] v = board-in n b h
   same-left b s h (call ∷ calls) v =
       ap (λ l. boardIn (tableLeft l calls)) (same-after concur n size b s h call)
       ∙ same-left (after concur n b call) (after-sound concur n size b s call) (after-held concur n size b s h call (v .0)) calls (v .1)
@@ -45,19 +45,19 @@ same-answers : (n : ℕ) (calls : List Call) (claims : List Claim) (a b c d : Bo
     → Every (λ q. answerTo n calls a c s (q .question) ≡ q .lines) claims
 same-answers n calls claims a b c d s t p q r h = rw (p, q, r) h
 
-pub case-in-words : (c : Case) → c .start ≡ opened (c .n) → Every CallHeld (c .calls) → (l : List ℕ) → openNumber (c .n) l ≡ 0
-    → Holds c → HoldsInWords c (openWords (c .n) l)
+pub case-in-words : (c : Case) → c .start ≡ opened (c .n) → Every CallHeld (c .calls) → (l : List ℕ) → openNumber concur (c .n) l ≡ 0
+    → Holds c → HoldsInWords c (openWords concur (c .n) l)
 unfolding found foundInWords openWords
 case-in-words c e v l o h =
     let n = c .n in
-    let size = open-size n l o in
+    let size = open-size concur n l o in
     rw o (same-answers n (c .calls) (c .claims)
     (boardIn (tableWords n (opened n))) (c .start)
     (boardIn (tableLeft (tableWords n (opened n)) (c .calls))) (left n (c .start) (c .calls))
     (tableRun concur (tableWords n (opened n)) (c .calls)) (run concur n (c .start) (c .calls))
-    (board-in concur n size (opened n) (opened-held n) ∙ sym e)
-    (same-left n size (opened n) (opened-sound concur n) (opened-held n) (c .calls) v ∙ ap (λ b. left n b (c .calls)) (sym e))
-    (same-run concur n size (opened n) (opened-sound concur n) (opened-held n) (c .calls) v ∙ ap (λ b. run concur n b (c .calls)) (sym e))
+    (board-in n (opened n) (opened-held n) ∙ sym e)
+    (same-left n size (opened n) (opened-sound n) (opened-held n) (c .calls) v ∙ ap (λ b. left n b (c .calls)) (sym e))
+    (same-run concur n size (opened n) (opened-sound n) (opened-held n) (c .calls) v ∙ ap (λ b. run concur n b (c .calls)) (sym e))
     h)
 
 -- The values of scripts have 8 words.
@@ -222,7 +222,7 @@ module _ {A : Type 0} (P : A → Type 0) where
   before (x ∷ xs) ys h = (h .0, before xs ys (h .1))
 
 abbrev InWords : Case → Type 0
-InWords c = (l : List ℕ) → openNumber (c .n) l ≡ 0 → HoldsInWords c (openWords (c .n) l)
+InWords c = (l : List ℕ) → openNumber concur (c .n) l ≡ 0 → HoldsInWords c (openWords concur (c .n) l)
 
 each-in-words : (cs : List Case) → Every Opened cs → Every Holds cs → Every InWords cs
 each-in-words [] o h = tt

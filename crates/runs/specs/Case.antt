@@ -14,7 +14,7 @@ use Rattle.model.specs.Records.{Value, Rec, read, write, zeroValue}
 use Rattle.model.specs.Kinds.{concur}
 use Rattle.model.specs.Member.{Member, check21, check22, check23, check24, check25, check26, check27, replied}
 use Rattle.model.specs.Board.{Board}
-use Rattle.model.specs.Runs.{Call, begin, deliver, crash, Seen, run, after}
+use Rattle.model.specs.Runs.{Call, begin, deliver, Seen, run, after}
 use Rattle.lists.specs.Every.{Every}
 use Rattle.model.specs.History.{Op, Submit, watched}
 use Rattle.model.specs.Messages.{reply, commit, encode}
@@ -154,7 +154,7 @@ changed old [] = 0
 changed old (w ∷ l) = cond (eqb w old) (changed old l) (suc (changed old l))
 
 unfoldable pub opensOf : ℕ → List ℕ → List ℕ
-opensOf n l = openNumber n l ∷ changed 7 (openWords n l) ∷ []
+opensOf n l = openNumber concur n l ∷ changed 7 (openWords concur n l) ∷ []
 
 -- the answer to a question, by the board at the start, the board that the calls left, and what was seen
 unfoldable pub answerTo : ℕ → List Call → Board → Board → List Seen → Question → List (List ℕ)

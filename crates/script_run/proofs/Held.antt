@@ -176,7 +176,7 @@ whole-some (x ∷ l) w = omega arith
 pub whole-after : (l : List ℕ) (call : Call) → Whole l → Whole (tableAfter concur l call)
 unfolding tableAfter
 whole-after l call w = on (eqb (tableAnswer concur l call) 0)
-    (λ p. rw p (whole-words (words l 0) (done concur (words l 0) (boardIn l) call) (w .least) (w .most)))
+    (λ p. rw p (whole-words (words l 0) (done (words l 0) (boardIn l) call) (w .least) (w .most)))
     (λ p. rw p w)
 
 whole-stepped : (step : ℕ) (l : List ℕ) (call : Option Call) → Whole l → Whole (stepped concur step l call .table)
@@ -188,7 +188,7 @@ pub step-whole : (step : ℕ) (l line : List ℕ) → Whole l → Whole (stepLin
 unfolding stepLine
 step-whole step l line w = whole-stepped step l (callOf (lineOf line)) w
 
-pub opened-words : (n : ℕ) (l : List ℕ) → inside 12 n ≡ true → length l ≡ tableSize n → openWords n l ≡ tableWords n (opened n)
+pub opened-words : (n : ℕ) (l : List ℕ) → inside 12 n ≡ true → length l ≡ tableSize n → openWords concur n l ≡ tableWords n (opened n)
 unfolding openWords openNumber
 opened-words n l p q = rw (p, eq-eqb (length l) (tableSize n) q)
 

@@ -27,21 +27,21 @@ use Rattle.script_run.proofs.Held.{wrote-front}
 
 -- The definitions by their tests.
 
-pub first-inside : (table : List ℕ) (n : ℕ) → inside 12 n ≡ true → firstRun table (some n) ≡ ended 1 (tableWords n (opened n)) (boardLine n)
+pub first-inside : (table : List ℕ) (n : ℕ) → inside 12 n ≡ true → firstRun concur table (some n) ≡ ended 1 (tableWords n (opened n)) (boardLine n)
 unfolding firstRun
 first-inside table n h = rw h
 
-pub first-outside : (table : List ℕ) (n : ℕ) → inside 12 n ≡ false → firstRun table (some n) ≡ ended overStep table (refusedLine 1)
+pub first-outside : (table : List ℕ) (n : ℕ) → inside 12 n ≡ false → firstRun concur table (some n) ≡ ended overStep table (refusedLine 1)
 unfolding firstRun
 first-outside table n h = rw h
 
-pub first-none : (table : List ℕ) → firstRun table none ≡ ended overStep table (refusedLine 17)
+pub first-none : (table : List ℕ) → firstRun concur table none ≡ ended overStep table (refusedLine 17)
 unfolding firstRun
 first-none table = refl
 
 module _ (p : Progress) (table kept : List ℕ) where
   pub line-first : p .step ≡ 0
-      → lineRun concur (stateOf p table kept) ≡ firstRun (take (p .size) table) (firstOf (take (p .kept) kept))
+      → lineRun concur (stateOf p table kept) ≡ firstRun concur (take (p .size) table) (firstOf (take (p .kept) kept))
   unfolding lineRun stateOf
   line-first h = rw (eq-eqb (p .step) 0 h)
 

@@ -99,10 +99,10 @@ module _ (kind : Kind) where
   opened-ends table printed lines = refl
 
   first-ends : (table : List ℕ) (o : Option ℕ) (lines : List (List ℕ))
-      → boardPrinted kind o lines ≡ firstRun table o .printed ++ leftPrinted kind (firstRun table o .state) lines
+      → boardPrinted kind o lines ≡ firstRun kind table o .printed ++ leftPrinted kind (firstRun kind table o .state) lines
   unfolding boardPrinted firstRun
   first-ends table none lines = refused-ends table (refusedLine 17) lines
-  first-ends table (some n) lines = on (inside 12 n)
+  first-ends table (some n) lines = on (inside (kind .most) n)
       (λ h. rw h (opened-ends (tableWords n (opened n)) (boardLine n) lines))
       (λ h. rw h (refused-ends table (refusedLine 1) lines))
 
@@ -128,10 +128,10 @@ module _ (kind : Kind) where
       ∙ first-ends (s .table) (firstOf (s .kept)) lines))
       (λ z. let nz : s .step ≡ 0 → ⊥ = eqb-false (s .step) 0 z in rw z (step-ends s p lines h (omega arith) e))
 
-  first-counts : (table : List ℕ) (o : Option ℕ) → 0 < firstRun table o .state .step
+  first-counts : (table : List ℕ) (o : Option ℕ) → 0 < firstRun kind table o .state .step
   unfolding firstRun
   first-counts table none = omega arith
-  first-counts table (some n) = on (inside 12 n) (λ h. rw h (omega arith)) (λ h. rw h (omega arith))
+  first-counts table (some n) = on (inside (kind .most) n) (λ h. rw h (omega arith)) (λ h. rw h (omega arith))
 
   line-counts : (s : State) → 0 < lineRun kind s .state .step
   unfolding lineRun stepRun
@@ -139,10 +139,10 @@ module _ (kind : Kind) where
       (λ z. rw z (first-counts (s .table) (firstOf (s .kept))))
       (λ z. rw z (omega arith))
 
-  first-fresh : (table : List ℕ) (o : Option ℕ) → firstRun table o .state .kept ≡ []
+  first-fresh : (table : List ℕ) (o : Option ℕ) → firstRun kind table o .state .kept ≡ []
   unfolding firstRun
   first-fresh table none = refl
-  first-fresh table (some n) = on (inside 12 n) (λ h. rw h) (λ h. rw h)
+  first-fresh table (some n) = on (inside (kind .most) n) (λ h. rw h) (λ h. rw h)
 
   line-fresh : (s : State) → lineRun kind s .state .kept ≡ []
   unfolding lineRun stepRun

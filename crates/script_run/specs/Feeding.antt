@@ -44,9 +44,9 @@ keep kept b = cond (ltb (length kept) mostKept) (kept ++ (b ∷ [])) kept
 abbrev pub ended : ℕ → List ℕ → List ℕ → Fed
 ended step table printed = record { state = record { step = step; table = table; kept = [] }; printed = printed }
 
-unfoldable pub firstRun : List ℕ → Option ℕ → Fed
-firstRun table none = ended overStep table (refusedLine 17)
-firstRun table (some n) = cond (inside 12 n) (ended 1 (tableWords n (opened n)) (boardLine n)) (ended overStep table (refusedLine 1))
+unfoldable pub firstRun : Kind → List ℕ → Option ℕ → Fed
+firstRun kind table none = ended overStep table (refusedLine 17)
+firstRun kind table (some n) = cond (inside (kind .most) n) (ended 1 (tableWords n (opened n)) (boardLine n)) (ended overStep table (refusedLine 1))
 
 unfoldable pub stepRun : Kind → State → Fed
 stepRun kind s =
@@ -54,7 +54,7 @@ stepRun kind s =
     ended (s .step + 1) (done .table) (done .printed)
 
 unfoldable pub lineRun : Kind → State → Fed
-lineRun kind s = cond (eqb (s .step) 0) (firstRun (s .table) (firstOf (s .kept))) (stepRun kind s)
+lineRun kind s = cond (eqb (s .step) 0) (firstRun kind (s .table) (firstOf (s .kept))) (stepRun kind s)
 
 -- one byte, and one after the other
 

@@ -2,6 +2,7 @@
 ghost use mathlib.Core.Path.{_≡_};
 ghost use Prim.Native.Nat.{_+_, _≤_};
 ghost use lib.ListN.{length, take};
+ghost use Rattle.model.specs.Kinds.{concur};
 ghost use Rattle.model.specs.Script.{firstOf, refusedLine};
 ghost use Rattle.script_run.specs.Feeding.{overStep, firstRun};
 ghost use Rattle.script_run.specs.Meaning.{Ready, Wrote, Ran};
@@ -33,7 +34,7 @@ fn refuse(p: Progress, number: u32, out: &mut [u8], at: usize) -> Next
 
 pub fn run_first(table: &mut [u32], kept: &[u8], p: Progress, out: &mut [u8], at: usize) -> Next
     requires { ⌜ (Ready p (now table) (now kept)) × (at + 44 ≤ length (now out)) ⌝ }
-    ensures { λ r. ⌜ Ran (firstRun (take (p .size) (now (table .entry))) (firstOf (take (p .kept) (now (kept .entry))))) r (now (table .exit)) (now (kept .entry)) (now (out .entry)) (now (out .exit)) at ⌝ }
+    ensures { λ r. ⌜ Ran (firstRun concur (take (p .size) (now (table .entry))) (firstOf (take (p .kept) (now (kept .entry))))) r (now (table .exit)) (now (kept .entry)) (now (out .entry)) (now (out .exit)) at ⌝ }
 {
     let count = p.kept;
     let members = parse_members(&kept[..count]);

@@ -9,7 +9,6 @@ use lib.ListN.{length, List·getD-eq-default}
 use Rattle.lists.specs.Functions.{inside, each}
 use Rattle.lists.specs.Parts.{words}
 use Rattle.lists.proofs.Functions.{within-at, inside-low, inside-high}
-use Rattle.model.specs.Kinds.{concur}
 use Rattle.model.specs.Table.{tableSize, blockAt, phaseAt, boardOf, tableNumber, soundMember, soundHost, soundBoard}
 use Rattle.model.specs.TableCalls.{phaseWords}
 use Rattle.checks.specs.Needs.{Within}
@@ -17,7 +16,7 @@ use Rattle.tables.specs.Needs.{Table}
 
 -- the check of member i's block in the table
 abbrev pub soundAt : ℕ → List ℕ → ℕ → Bool
-soundAt n l i = soundMember concur n i (boardOf n (words l) .members i)
+soundAt n l i = soundMember n i (boardOf n (words l) .members i)
 
 abbrev pub soundEntries : ℕ → List ℕ → Bool
 soundEntries n l = soundHost n (boardOf n (words l) .host) (boardOf n (words l) .stored)
@@ -26,29 +25,29 @@ module _ (l : List ℕ) where
   abbrev n : ℕ
   n = words l 0
 
-  pub size-refused : inside 12 n ≡ false → 3 ≡ tableNumber concur l
+  pub size-refused : inside 12 n ≡ false → 3 ≡ tableNumber l
   unfolding tableNumber
   size-refused p = rw p
 
-  pub empty-refused : length l ≡ 0 → 3 ≡ tableNumber concur l
+  pub empty-refused : length l ≡ 0 → 3 ≡ tableNumber l
   unfolding inside
   empty-refused e = size-refused (ap (inside 12) (List·getD-eq-default l 0 (omega (arith, e))))
 
   module _ (p : inside 12 n ≡ true) where
-    pub length-refused : eqb (length l) (tableSize n) ≡ false → 2 ≡ tableNumber concur l
+    pub length-refused : eqb (length l) (tableSize n) ≡ false → 2 ≡ tableNumber l
     unfolding tableNumber
     length-refused q = rw (p, q)
 
     module _ (q : eqb (length l) (tableSize n) ≡ true) where
-      pub blocks-refused : each n (soundAt n l) ≡ false → 3 ≡ tableNumber concur l
+      pub blocks-refused : each n (soundAt n l) ≡ false → 3 ≡ tableNumber l
       unfolding tableNumber soundBoard
       blocks-refused r = rw (p, q, r)
 
-      pub host-refused : each n (soundAt n l) ≡ true → soundEntries n l ≡ false → 3 ≡ tableNumber concur l
+      pub host-refused : each n (soundAt n l) ≡ true → soundEntries n l ≡ false → 3 ≡ tableNumber l
       unfolding tableNumber soundBoard
       host-refused r s = rw (p, q, r, s)
 
-      pub none-refused : each n (soundAt n l) ≡ true → soundEntries n l ≡ true → 0 ≡ tableNumber concur l
+      pub none-refused : each n (soundAt n l) ≡ true → soundEntries n l ≡ true → 0 ≡ tableNumber l
       unfolding tableNumber soundBoard
       none-refused r s = rw (p, q, r, s)
 

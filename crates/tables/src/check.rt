@@ -2,7 +2,6 @@
 ghost use mathlib.Core.Path.{_≡_};
 ghost use Rattle.lists.specs.Functions.{each};
 ghost use Rattle.lists.specs.Parts.{words};
-ghost use Rattle.model.specs.Kinds.{concur};
 ghost use Rattle.model.specs.Table.{boardOf, soundMember, soundHost, tableNumber};
 ghost use Rattle.tables.specs.Needs.{Table};
 use crate::steps::block_at;
@@ -17,7 +16,7 @@ use records::is_numbered;
 // The n member blocks.
 fn sound_blocks(table: &[u32], n: u32) -> bool
     requires { ⌜ Table n (now table) ⌝ }
-    ensures { λ r. ⌜ r ≡ each n (λ i. soundMember concur n i (boardOf n (words (now (table .entry))) .members i)) ⌝ }
+    ensures { λ r. ⌜ r ≡ each n (λ i. soundMember n i (boardOf n (words (now (table .entry))) .members i)) ⌝ }
 {
     let size = block_size(n as usize);
     let mut passed = 0;
@@ -43,7 +42,7 @@ fn sound_host(table: &[u32], n: u32) -> bool
 }
 
 pub fn table_number(table: &[u32]) -> u32
-    ensures { λ r. ⌜ r ≡ tableNumber concur (now (table .entry)) ⌝ }
+    ensures { λ r. ⌜ r ≡ tableNumber (now (table .entry)) ⌝ }
 {
     if table.len() == 0 {
         return 3;

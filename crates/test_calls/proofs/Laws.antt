@@ -11,7 +11,6 @@ use lib.ListN.{length, take, drop, set, length-append, length-drop, drop-of-leng
 use lib.Seq.{take-at, drop-at, length-take-le, sets-eq}
 use Rattle.lists.specs.Parts.{replaced}
 use Rattle.lists.proofs.Functions.{on, inside-high}
-use Rattle.model.specs.Kinds.{concur}
 use Rattle.model.specs.Records.{Rec, zeroRecord, recordWithin}
 use Rattle.model.specs.RecordWords.{recordSize, recordWords}
 use Rattle.model.specs.Halves.{hostNumber, submitNewest, submitStored}
@@ -105,7 +104,7 @@ pairs : (b : Bool) (r s z : Rec) → pairWords (cond b r z) (cond b s z) ≡ con
 pairs true r s z = refl
 pairs false r s z = refl
 
-pub replied : (n : ℕ) (l : List ℕ) (i r t : ℕ) {number : ℕ} {newest stored : Rec} → number ≡ hostNumber concur n l i r t
+pub replied : (n : ℕ) (l : List ℕ) (i r t : ℕ) {number : ℕ} {newest stored : Rec} → number ≡ hostNumber n l i r t
     → newest ≡ cond (eqb number 0) (submitNewest n l r) zeroRecord → stored ≡ cond (eqb number 0) (submitStored n l r) zeroRecord
     → pairWords newest stored ≡ repliedWords n l i r t
 unfolding repliedWords

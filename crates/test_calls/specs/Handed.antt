@@ -7,7 +7,6 @@ use mathlib.Core.Option.{Option}
 use lib.Dec.{eqb}
 use Rattle.lists.specs.Functions.{from}
 use Rattle.lists.specs.Parts.{words}
-use Rattle.model.specs.Kinds.{concur}
 use Rattle.model.specs.Records.{Rec, zeroRecord, recordWithin}
 use Rattle.model.specs.RecordWords.{recordOf, recordWords}
 use Rattle.model.specs.Halves.{hostNumber, submitNewest, submitStored}
@@ -64,6 +63,6 @@ messageGiven l = messageOf (fieldsFrom l)
 -- what a submit is replied: the slot's newest and stored records, and two of zeros where it is refused
 unfoldable pub repliedWords : ℕ → List ℕ → ℕ → ℕ → ℕ → List ℕ
 repliedWords n l member slot operation =
-    cond (eqb (hostNumber concur n l member slot operation) 0)
+    cond (eqb (hostNumber n l member slot operation) 0)
     (pairWords (submitNewest n l slot) (submitStored n l slot))
     (pairWords zeroRecord zeroRecord)

@@ -57,11 +57,11 @@ pub extern "C" fn concur_call_member_reply(
 ) -> u32
     ensures { λ r. ⌜ r
         ≡ beside (now (records .entry)) pairDue 2
-        (replyNumber concur n member (now (block .entry))
+        (replyNumber n member (now (block .entry))
         (recordGiven n (now (records .entry)) 0) (recordGiven n (now (records .entry)) recordDue) seals) ⌝ }
     ensures { λ _. ⌜ now (block .exit)
         ≡ beside (now (records .entry)) pairDue (now (block .entry))
-        (replyWords concur n member (now (block .entry))
+        (replyWords n member (now (block .entry))
         (recordGiven n (now (records .entry)) 0) (recordGiven n (now (records .entry)) recordDue) seals) ⌝ }
 {
     if records.len() != PAIR_WORDS {
@@ -82,13 +82,13 @@ pub extern "C" fn concur_call_member_outcome(
 ) -> u32
     ensures { λ r. ⌜ r
         ≡ beside (now (returned .entry)) returnedSize 2
-        (outcomeNumber concur n member (now (block .entry)) outcome) ⌝ }
+        (outcomeNumber n member (now (block .entry)) outcome) ⌝ }
     ensures { λ _. ⌜ now (block .exit)
         ≡ beside (now (returned .entry)) returnedSize (now (block .entry))
-        (outcomeWords concur n member (now (block .entry)) outcome) ⌝ }
+        (outcomeWords n member (now (block .entry)) outcome) ⌝ }
     ensures { λ _. ⌜ now (returned .exit)
         ≡ beside (now (returned .entry)) returnedSize (now (returned .entry))
-        (returnedWords (outcomeReturns concur n member (now (block .entry)) outcome)) ⌝ }
+        (returnedWords (outcomeReturns n member (now (block .entry)) outcome)) ⌝ }
 {
     if returned.len() != 9 {
         return 2;
@@ -102,8 +102,8 @@ pub extern "C" fn concur_call_member_outcome(
 
 #[no_mangle]
 pub extern "C" fn concur_call_member_crash(block: &mut [u32], n: u32, member: u32) -> u32
-    ensures { λ r. ⌜ r ≡ memberCrashNumber concur n member (now (block .entry)) ⌝ }
-    ensures { λ _. ⌜ now (block .exit) ≡ memberCrashWords concur n member (now (block .entry)) ⌝ }
+    ensures { λ r. ⌜ r ≡ memberCrashNumber n member (now (block .entry)) ⌝ }
+    ensures { λ _. ⌜ now (block .exit) ≡ memberCrashWords n member (now (block .entry)) ⌝ }
 {
     crash(block, n, member)
 }
@@ -120,10 +120,10 @@ pub extern "C" fn concur_call_host_submit(
 ) -> u32
     ensures { λ r. ⌜ r
         ≡ beside (now (records .entry)) pairDue 2
-        (hostNumber concur n (now (entries .entry)) member slot operation) ⌝ }
+        (hostNumber n (now (entries .entry)) member slot operation) ⌝ }
     ensures { λ _. ⌜ now (entries .exit)
         ≡ beside (now (records .entry)) pairDue (now (entries .entry))
-        (submitWords concur n (now (entries .entry)) member slot operation count) ⌝ }
+        (submitWords n (now (entries .entry)) member slot operation count) ⌝ }
     ensures { λ _. ⌜ now (records .exit)
         ≡ beside (now (records .entry)) pairDue (now (records .entry))
         (repliedWords n (now (entries .entry)) member slot operation) ⌝ }
@@ -145,13 +145,13 @@ pub extern "C" fn concur_call_host_commit(
 ) -> u32
     ensures { λ r. ⌜ r
         ≡ besideTwo (now (committed .entry)) recordDue (now (outcome .entry)) numberDue 2
-        (commitNumber concur n (now (entries .entry)) (recordGiven n (now (committed .entry)) 0)) ⌝ }
+        (commitNumber n (now (entries .entry)) (recordGiven n (now (committed .entry)) 0)) ⌝ }
     ensures { λ _. ⌜ now (entries .exit)
         ≡ besideTwo (now (committed .entry)) recordDue (now (outcome .entry)) numberDue (now (entries .entry))
-        (commitWords concur n (now (entries .entry)) (recordGiven n (now (committed .entry)) 0)) ⌝ }
+        (commitWords n (now (entries .entry)) (recordGiven n (now (committed .entry)) 0)) ⌝ }
     ensures { λ _. ⌜ now (outcome .exit)
         ≡ besideTwo (now (committed .entry)) recordDue (now (outcome .entry)) numberDue (now (outcome .entry))
-        (commitOutcome concur n (now (entries .entry)) (recordGiven n (now (committed .entry)) 0) ∷ []) ⌝ }
+        (commitOutcome n (now (entries .entry)) (recordGiven n (now (committed .entry)) 0) ∷ []) ⌝ }
 {
     if committed.len() != RECORD_WORDS {
         return 2;

@@ -1,7 +1,6 @@
 use borrow.Author.Needs.{needs}
 use mathlib.Core.Path.{refl, sym, _∙_}
 use Rattle.lists.specs.Parts.{words}
-use Rattle.model.specs.Kinds.{concur}
 use Rattle.model.specs.Table.{boardOf}
 use Rattle.board.proofs.Answers.{taken-none, none-at, last-returned, last-phase}
 use Rattle.model.proofs.AsReference.{board-phase}
@@ -17,7 +16,7 @@ returns c =
     let e = c .nothing .ensures in
     let p = sym (c .before .before .before .before .before .before .before .pre .1) ∙ c .before .before .before .before .before .if1 .taken in (
       rw (none-at (a .n) (boardOf (a .n) (words (a .table .now))) (a .member) 1 p refl) (taken-none (c .nothing .result) (e .0) (e .1 .0) (e .1 .1)),
-      rw (board-phase concur (a .n) (boardOf (a .n) (words (a .table .now))) (a .member) 1 p) (c .before .before .before .submit-taken .ensures),
+      rw (board-phase (a .n) (boardOf (a .n) (words (a .table .now))) (a .member) 1 p) (c .before .before .before .submit-taken .ensures),
     )
 
 reply-taken-requires : tie.Need-reply-taken-requires
@@ -29,7 +28,7 @@ returns-2 c =
     let e = c .nothing2 .ensures in
     let p = sym (c .before .before .before .before .before .before .before .before .pre .1) ∙ c .before .before .before .before .before .if2 .taken in (
       rw (none-at (a .n) (boardOf (a .n) (words (a .table .now))) (a .member) 2 p refl) (taken-none (c .nothing2 .result) (e .0) (e .1 .0) (e .1 .1)),
-      rw (board-phase concur (a .n) (boardOf (a .n) (words (a .table .now))) (a .member) 2 p) (c .before .before .before .reply-taken .ensures),
+      rw (board-phase (a .n) (boardOf (a .n) (words (a .table .now))) (a .member) 2 p) (c .before .before .before .reply-taken .ensures),
     )
 
 commit-taken-requires : tie.Need-commit-taken-requires
@@ -41,7 +40,7 @@ returns-3 c =
     let e = c .nothing3 .ensures in
     let p = sym (c .before .before .before .before .before .before .before .before .before .pre .1) ∙ c .before .before .before .before .before .if3 .taken in (
       rw (none-at (a .n) (boardOf (a .n) (words (a .table .now))) (a .member) 3 p refl) (taken-none (c .nothing3 .result) (e .0) (e .1 .0) (e .1 .1)),
-      rw (board-phase concur (a .n) (boardOf (a .n) (words (a .table .now))) (a .member) 3 p) (c .before .before .before .commit-taken .ensures),
+      rw (board-phase (a .n) (boardOf (a .n) (words (a .table .now))) (a .member) 3 p) (c .before .before .before .commit-taken .ensures),
     )
 
 outcome-taken-requires : tie.Need-outcome-taken-requires

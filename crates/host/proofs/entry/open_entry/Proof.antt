@@ -4,13 +4,13 @@ use Prim.Native.Nat.{ℕ}
 use mathlib.Core.Path.{_≡_, refl}
 use mathlib.Core.Bool.{true}
 use Rattle.model.specs.Records.{opening}
-use Rattle.model.specs.Kinds.{concur, becomesStored}
+use Rattle.model.specs.Kinds.{becomesStored}
 use Rattle.model.specs.Board.{openingEntry}
 use Rattle.laws.proofs.Records.{within-opening}
 use Rattle.host.proofs.entry.open_entry.Statement.{statement}
 use Rattle.host.proofs.entry.open_entry.Tie as tie
 
-becomes-stored : (slot : ℕ) → becomesStored concur (opening slot) ≡ true
+becomes-stored : (slot : ℕ) → becomesStored (opening slot) ≡ true
 unfolding becomesStored opening
 becomes-stored slot = refl
 

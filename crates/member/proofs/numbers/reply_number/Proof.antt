@@ -8,7 +8,6 @@ use mathlib.Core.List.{List}
 use lib.Dec.{leb}
 use borrow.Author.Tests.{le-leb, lt-leb}
 use Rattle.lists.specs.Parts.{words}
-use Rattle.model.specs.Kinds.{concur}
 use Rattle.model.specs.Records.{Rec, recordWithin}
 use Rattle.model.specs.Table.{memberOf}
 use Rattle.model.specs.Halves.{orElse, fitRecord, memberNumber, notWaiting, replyNumber}
@@ -23,15 +22,15 @@ module _ (n i : ℕ) (l : List ℕ) (newest stored : Rec) (seals : ℕ) where
   fields = cond (not (leb seals 3 && (fitRecord n newest && fitRecord n stored))) 15 0
 
   abbrev waiting : ℕ
-  waiting = orElse (memberNumber concur n i l) (cond (notWaiting 1 (memberOf n (words l))) 10 0)
+  waiting = orElse (memberNumber n i l) (cond (notWaiting 1 (memberOf n (words l))) 10 0)
 
-  not-waiting : {number : ℕ} → number ≡ waiting → (number ≡ 0 → ⊥) → number ≡ replyNumber concur n i l (recordWithin n newest) (recordWithin n stored) seals
+  not-waiting : {number : ℕ} → number ≡ waiting → (number ≡ 0 → ⊥) → number ≡ replyNumber n i l (recordWithin n newest) (recordWithin n stored) seals
   unfolding replyNumber fitRecord recordWithin
-  not-waiting e h = refused-waiting (memberNumber concur n i l) (notWaiting 1 (memberOf n (words l))) fields e h
+  not-waiting e h = refused-waiting (memberNumber n i l) (notWaiting 1 (memberOf n (words l))) fields e h
 
-  judged : {number r : ℕ} → number ≡ waiting → number ≡ 0 → r ≡ fields → r ≡ replyNumber concur n i l (recordWithin n newest) (recordWithin n stored) seals
+  judged : {number r : ℕ} → number ≡ waiting → number ≡ 0 → r ≡ fields → r ≡ replyNumber n i l (recordWithin n newest) (recordWithin n stored) seals
   unfolding replyNumber fitRecord recordWithin
-  judged e z h = passed-waiting (memberNumber concur n i l) (notWaiting 1 (memberOf n (words l))) fields e z h
+  judged e z h = passed-waiting (memberNumber n i l) (notWaiting 1 (memberOf n (words l))) fields e z h
 
 returns : tie.Need-returns
 returns c =

@@ -10,7 +10,7 @@ use borrow.Author.Tests.{le-leb, lt-leb}
 use Rattle.lists.specs.Functions.{from, inside}
 use Rattle.lists.specs.Parts.{words}
 use Rattle.model.specs.RecordWords.{recordSize, recordOf}
-use Rattle.model.specs.Kinds.{concur, barred}
+use Rattle.model.specs.Kinds.{barred}
 use Rattle.model.specs.Table.{firstAt, secondAt, memberOf, soundRecord, soundOperation, soundMember}
 use Rattle.laws.proofs.Tests.{refused, allowed}
 use Rattle.member.proofs.Sizes.{head-room, first-room, second-room}
@@ -22,17 +22,17 @@ sound n i w first second =
     (leb (w 0) 6 && leb (w 1) 1 && (eqb (w 2) 0 || leb 21 (w 2) && leb (w 2) 27))
     && leb (w 3) n
     && leb (w 4) 2
-    && (not (inside 5 (w 0)) || leb 1 (w 3) && leb 1 (w 4) && not (barred concur i (w 3) (w 4)))
+    && (not (inside 5 (w 0)) || leb 1 (w 3) && leb 1 (w 4) && not (barred i (w 3) (w 4)))
     && soundRecord n (recordOf n (from w first))
     && soundRecord n (recordOf n (from w second))
 
-by-words : (n i : ℕ) (w : ℕ → ℕ) (first second : ℕ) → first ≡ firstAt n → second ≡ secondAt n → soundMember concur n i (memberOf n w) ≡ sound n i w first second
+by-words : (n i : ℕ) (w : ℕ → ℕ) (first second : ℕ) → first ≡ firstAt n → second ≡ secondAt n → soundMember n i (memberOf n w) ≡ sound n i w first second
 unfolding soundMember soundOperation memberOf
 by-words n i w first second p q = rw (p, q)
 
 judged : (c : tie.After-layout) (i : ℕ) →
     let g = c .before .before .args in
-    soundMember concur (g .n) i (memberOf (g .n) (words (g .block .now)))
+    soundMember (g .n) i (memberOf (g .n) (words (g .block .now)))
     ≡ sound (g .n) i (words (g .block .now)) (c .layout .result .first) (c .layout .result .second)
 judged c i =
     let g = c .before .before .args in

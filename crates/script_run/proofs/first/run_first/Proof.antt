@@ -9,6 +9,7 @@ use lib.Seq.{length-take-le}
 use borrow.Author.Tests.{not-true, not-false}
 use Rattle.lists.specs.Functions.{inside}
 use Rattle.lists.proofs.Functions.{inside-low, inside-high}
+use Rattle.model.specs.Kinds.{concur}
 use Rattle.model.specs.Board.{opened}
 use Rattle.model.specs.Table.{tableWords}
 use Rattle.model.specs.Script.{firstOf, boardLine}
@@ -34,7 +35,7 @@ returns c =
     let m = c .before .before .before .before .before .before .parse-members .result in
     let e : o ≡ none = held-none o m (c .before .before .before .before .before .before .parse-members .ensures) (not-true (m .ok) (c .before .before .before .before .if1 .taken)) in
     refused-ran (a .p) (a .table .now) (a .kept .now) (a .out .now) (c .before .before .refuse .last .1 .1 .0) (a .at) (c .before .before .before .before .before .before .before .before .before .before .before .pre .0)
-    (firstRun table o) (c .before .before .refuse .result) 17 (ap (firstRun table) e ∙ first-none table) (c .before .before .refuse .ensures .0) (c .before .before .refuse .ensures .1)
+    (firstRun concur table o) (c .before .before .refuse .result) 17 (ap (firstRun concur table) e ∙ first-none table) (c .before .before .refuse .ensures .0) (c .before .before .refuse .ensures .1)
 
 returns-2 : tie.Need-returns-2
 returns-2 c =
@@ -45,7 +46,7 @@ returns-2 c =
     let e : o ≡ some (m .value) = held-some o m (c .before .before .before .before .before .before .before .before .parse-members .ensures) (not-false (m .ok) (c .before .before .before .before .before .before .if1 .left)) in
     let outside : inside 12 (m .value) ≡ false = sym (c .before .before .before .before .before .is-numbered .ensures) ∙ not-true (c .before .before .before .before .before .is-numbered .result) (c .before .before .before .before .if2 .taken) in
     refused-ran (a .p) (a .table .now) (a .kept .now) (a .out .now) (c .before .before .refuse2 .last .1 .1 .0) (a .at) (c .before .before .before .before .before .before .before .before .before .before .before .before .before .pre .0)
-    (firstRun table o) (c .before .before .refuse2 .result) 1 (ap (firstRun table) e ∙ first-outside table (m .value) outside) (c .before .before .refuse2 .ensures .0) (c .before .before .refuse2 .ensures .1)
+    (firstRun concur table o) (c .before .before .refuse2 .result) 1 (ap (firstRun concur table) e ∙ first-outside table (m .value) outside) (c .before .before .refuse2 .ensures .0) (c .before .before .refuse2 .ensures .1)
 
 table-size-requires : tie.Need-table-size-requires
 table-size-requires c κs =
@@ -85,8 +86,8 @@ returns-3 c =
     let left : (c .before .before .before .before .before .before .«open») .last .0 ≡ tableWords n (opened n) = (c .before .before .before .before .before .before .«open») .ensures .1 ∙ opened-words n lent within (part ∙ known .0) in
     let long : length ((c .before .before .before .before .before .before .«open») .last .0) ≡ size = ap length left ∙ length-table n (opened n) ∙ sym (known .0) in
     ended-ran (a .p) (a .table .now) (a .kept .now) (a .out .now) (c .before .before .print-board .last .0) (a .at) r
-    (firstRun table o) 1 size (c .before .before .print-board .result) ((c .before .before .before .before .before .before .«open») .last .0) (boardLine n) long (known .1) (rw left (whole-words n (opened n) least most))
-    (ap (firstRun table) e ∙ first-inside table n within ∙ ap (λ t. ended 1 t (boardLine n)) (sym left))
+    (firstRun concur table o) 1 size (c .before .before .print-board .result) ((c .before .before .before .before .before .before .«open») .last .0) (boardLine n) long (known .1) (rw left (whole-words n (opened n) least most))
+    (ap (firstRun concur table) e ∙ first-inside table n within ∙ ap (λ t. ended 1 t (boardLine n)) (sym left))
     (wrote (c .before .before .print-board .ensures) (omega (arith, board-short n (omega arith), c .before .before .before .before .before .before .before .before .before .before .before .before .before .before .before .before .before .before .pre .1)))
 
 pub run-first-spec : {M : Type 1} → statement M

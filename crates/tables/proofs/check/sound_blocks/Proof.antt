@@ -5,7 +5,6 @@ use Prim.Native.Nat.{_-_, _≤_}
 use mathlib.Core.Bool.{true}
 use Rattle.lists.specs.Functions.{each}
 use Rattle.lists.proofs.Functions.{each-none}
-use Rattle.model.specs.Kinds.{concur}
 use Rattle.model.specs.Table.{soundMember}
 use Rattle.laws.proofs.Tests.{stops, goes-on, ends}
 use Rattle.tables.proofs.Numbers.{soundAt}
@@ -28,12 +27,12 @@ sound-block-requires c κs = whole-block (block-lent ((c .before .before .before
 returns : tie.Need-returns Inv-loop μ-loop
 returns c =
     let a = (c .before .before .before .before .before .before .before .before .args) in
-    stops (a .n) (soundAt (a .n) (a .table .now)) (c .before .before .before .before .before .loop .passed) (c .before .before .before .before .loop-test .taken) (c .before .sound-block .ensures ∙ ap (soundMember concur (a .n) _) (member-lent (block-lent ((c .before .before .before .before .before .before .before .before .pre)) (next (c .before .before .before .before .loop-test .taken)) (c .before .before .before .block-at .ensures) (c .before .before .before .before .before .before .block-size .ensures)))) (c .if1 .taken)
+    stops (a .n) (soundAt (a .n) (a .table .now)) (c .before .before .before .before .before .loop .passed) (c .before .before .before .before .loop-test .taken) (c .before .sound-block .ensures ∙ ap (soundMember (a .n) _) (member-lent (block-lent ((c .before .before .before .before .before .before .before .before .pre)) (next (c .before .before .before .before .loop-test .taken)) (c .before .before .before .block-at .ensures) (c .before .before .before .before .before .before .block-size .ensures)))) (c .if1 .taken)
 
 loop-again : tie.Need-loop-again Inv-loop μ-loop
 loop-again c =
     let a = (c .before .before .before .before .before .before .before .before .args) in
-    (search needs, goes-on (a .n) (soundAt (a .n) (a .table .now)) (c .before .before .before .before .before .loop .passed) (c .before .before .before .before .before .loop .inv .1) (c .before .sound-block .ensures ∙ ap (soundMember concur (a .n) _) (member-lent (block-lent ((c .before .before .before .before .before .before .before .before .pre)) (next (c .before .before .before .before .loop-test .taken)) (c .before .before .before .block-at .ensures) (c .before .before .before .before .before .before .block-size .ensures)))) (c .if1 .left))
+    (search needs, goes-on (a .n) (soundAt (a .n) (a .table .now)) (c .before .before .before .before .before .loop .passed) (c .before .before .before .before .before .loop .inv .1) (c .before .sound-block .ensures ∙ ap (soundMember (a .n) _) (member-lent (block-lent ((c .before .before .before .before .before .before .before .before .pre)) (next (c .before .before .before .before .loop-test .taken)) (c .before .before .before .block-at .ensures) (c .before .before .before .before .before .before .block-size .ensures)))) (c .if1 .left))
 
 returns-2 : tie.Need-returns-2 Inv-loop μ-loop
 returns-2 c =

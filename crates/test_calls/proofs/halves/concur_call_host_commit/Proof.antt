@@ -3,7 +3,6 @@ use borrow.Author.Needs.{needs}
 use native.Mathlib.Omega.{arith}
 use mathlib.Core.Path.{ap, _∙_}
 use mathlib.Core.List.{[], _∷_}
-use Rattle.model.specs.Kinds.{concur}
 use Rattle.model.specs.Halves.{commitNumber, commitWords, commitOutcome}
 use Rattle.test_calls.proofs.Laws.{refuses-first, refuses-second, calls-both, one-stored, given}
 use Rattle.test_calls.proofs.halves.concur_call_host_commit.Statement.{statement}
@@ -46,12 +45,12 @@ returns-3 c =
     let l = a .entries .now in
     let e = given (a .n) (a .committed .now) 0 (loaded k .load-at .ensures) in
     let done = k .take-commit .ensures in (
-      calls-both _ _ _ _ p q _ _ (done .0 ∙ ap (commitNumber concur (a .n) l) e),
+      calls-both _ _ _ _ p q _ _ (done .0 ∙ ap (commitNumber (a .n) l) e),
       (
-        calls-both _ _ _ _ p q _ _ (done .1 .1 ∙ ap (commitWords concur (a .n) l) e),
+        calls-both _ _ _ _ p q _ _ (done .1 .1 ∙ ap (commitWords (a .n) l) e),
         calls-both _ _ _ _ p q _ _
             (one-stored (a .outcome .now) (k .take-commit .result .outcome) q
-            ∙ ap (λ o. o ∷ []) (done .1 .0 ∙ ap (commitOutcome concur (a .n) l) e)),
+            ∙ ap (λ o. o ∷ []) (done .1 .0 ∙ ap (commitOutcome (a .n) l) e)),
       ),
     )
 

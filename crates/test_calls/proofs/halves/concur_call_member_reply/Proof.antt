@@ -2,7 +2,6 @@
 use borrow.Author.Needs.{needs}
 use native.Mathlib.Omega.{arith}
 use mathlib.Core.Path.{_∙_}
-use Rattle.model.specs.Kinds.{concur}
 use Rattle.model.specs.Halves.{replyNumber, replyWords}
 use Rattle.test_calls.proofs.Laws.{refuses, calls, given}
 use Rattle.test_calls.proofs.halves.concur_call_member_reply.Statement.{statement}
@@ -39,9 +38,9 @@ returns-2 c =
     let newest = given (a .n) l 0 (both .before .load-at .ensures) in
     let stored = given (a .n) l 156 (both .load-at2 .ensures) in (
       calls _ _ long _ _
-          (k .take-reply .ensures .0 ∙ (λ t. replyNumber concur (a .n) (a .member) (a .block .now) (newest t) (stored t) (a .seals))),
+          (k .take-reply .ensures .0 ∙ (λ t. replyNumber (a .n) (a .member) (a .block .now) (newest t) (stored t) (a .seals))),
       calls _ _ long _ _
-          (k .take-reply .ensures .1 ∙ (λ t. replyWords concur (a .n) (a .member) (a .block .now) (newest t) (stored t) (a .seals))),
+          (k .take-reply .ensures .1 ∙ (λ t. replyWords (a .n) (a .member) (a .block .now) (newest t) (stored t) (a .seals))),
     )
 
 pub concur-call-member-reply-spec : {M : Type 1} → statement M
