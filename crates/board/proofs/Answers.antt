@@ -22,7 +22,7 @@ use Rattle.model.specs.Runs.{Call, begin, deliver, crash, answerOf, done, doneR
 use Rattle.model.specs.Table.{tableSize, boardOf, tableNumber, soundBoard}
 use Rattle.model.specs.TableCalls.{boardIn, tableAnswer, tableAfter, tableBoard, tableReturns}
 use Rattle.model.proofs.Answers.{deliver-taken}
-use Rattle.model.proofs.AsReference.{board-phase}
+use Rattle.model.proofs.Steps.{board-phase}
 use Rattle.laws.proofs.Sound.{board-parts}
 use Rattle.laws.proofs.Tables.{table-back}
 use Rattle.checks.specs.Needs.{Within}

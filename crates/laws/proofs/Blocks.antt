@@ -1,17 +1,17 @@
 -- A member's block and a host entry in words: sizes, decoding and encoding.
-use Prim.Native.Nat.{ℕ, _+_, _*_, _≤_, _<_}
+use Prim.Native.Nat.{ℕ, _+_, _*_, _<_}
 use native.Mathlib.Omega.{arith}
-use mathlib.Core.Path.{_≡_, refl, sym, ap, _∙_, fun-ext}
+use mathlib.Core.Path.{_≡_, refl, sym, ap, _∙_}
 use mathlib.Core.List.{List, [], _∷_, _++_}
-use lib.ListN.{length, take, drop, length-append, List·getD-eq-default}
-use Rattle.lists.specs.Functions.{from, inside, within, numbered}
-use Rattle.lists.specs.Parts.{words, tabulate, listed}
+use lib.ListN.{length, take, drop, length-append}
+use Rattle.lists.specs.Functions.{from, numbered}
+use Rattle.lists.specs.Parts.{words, tabulate}
 use Rattle.lists.proofs.Functions.{numbered-blank}
-use Rattle.lists.proofs.Parts.{length-tabulate, tabulate-same, tabulate-at}
-use Rattle.lists.proofs.Pieces.{part-at, middle-at, second-at, tabulate-join, tabulate-run, tabulate-of}
+use Rattle.lists.proofs.Parts.{length-tabulate, tabulate-at}
+use Rattle.lists.proofs.Pieces.{part-at, middle-at, second-at, tabulate-join, tabulate-of}
 use Rattle.model.specs.Rows.{zeroRow, zeroMatrix}
-use Rattle.model.specs.Records.{Rec, opening, zeroRecord, zeroValue, write}
-use Rattle.model.specs.RecordWords.{valueAt, matrixAt, recordSize, rowOf, matrixOf, valueOf, recordOf, matrixWord, recordWords}
+use Rattle.model.specs.Records.{Rec, opening, zeroRecord, zeroValue}
+use Rattle.model.specs.RecordWords.{recordSize, rowOf, matrixOf, valueOf, recordOf, recordWords}
 use Rattle.model.specs.Member.{Member, idle}
 use Rattle.model.specs.Host.{Entry}
 use Rattle.laws.proofs.Records.{rowOf-same, valueOf-same, matrixOf-same, recordOf-same, row-listed, value-listed, matrix-listed, recordWords-of, length-recordWords, recordOf-words, within-opening}

@@ -12,10 +12,10 @@ use Rattle.lists.specs.Parts.{words, tabulate, replaced}
 use Rattle.lists.proofs.Functions.{on, by-place, put-at, put-off, pasted-in, pasted-below, pasted-above, pasted-same, from-pasted-at, numbered-put}
 use Rattle.lists.proofs.Parts.{words-set, length-replaced, words-replaced, length-tabulate, tabulate-at, part-tabulate, replicate-tabulate}
 use Rattle.lists.proofs.Pieces.{tabulate-of}
-use Rattle.model.specs.Records.{Value, Rec, write, zeroValue, zeroRecord, recordWithin}
+use Rattle.model.specs.Records.{Value, Rec, write, zeroRecord, recordWithin}
 use Rattle.model.specs.RecordWords.{matrixAt, recordSize, rowOf, matrixOf, valueOf, recordOf, recordWords}
-use Rattle.model.specs.Member.{Member, moved, begun, failed, judged, dropped, tookOver, completed, crashedOf}
-use Rattle.model.specs.Table.{phaseAt, crashedAt, haltAt, slotAt, operationAt, ownAt, acceptedAt, lastAt, pendingAt, knownAt, firstAt, secondAt, blockSize, memberOf}
+use Rattle.model.specs.Member.{moved, begun, failed, judged, dropped, tookOver, crashedOf}
+use Rattle.model.specs.Table.{phaseAt, crashedAt, haltAt, slotAt, operationAt, ownAt, acceptedAt, lastAt, pendingAt, knownAt, firstAt, secondAt, memberOf}
 use Rattle.laws.proofs.Records.{rowOf-same, matrixOf-same, valueOf-same, recordOf-same, rowOf-at, length-recordWords, recordOf-words}
 use Rattle.laws.proofs.Blocks.{value-zero, record-zero}
 

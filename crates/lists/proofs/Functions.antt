@@ -13,6 +13,16 @@ pub on {ℓ} : {B : Type ℓ} (b : Bool) → (b ≡ true → B) → (b ≡ false
 on true t f = t refl
 on false t f = f refl
 
+-- What holds on either side of a test holds of its outcome, or of its two outcomes.
+pub split {ℓ} : {A : Type 0} (P : A → Type ℓ) (b : Bool) {x y : A} → (b ≡ true → P x) → (b ≡ false → P y) → P (cond b x y)
+split P true p q = p refl
+split P false p q = q refl
+
+pub split-both {ℓ} : {A B : Type 0} (P : A → B → Type ℓ) (b : Bool) {x y : A} {z t : B}
+    → (b ≡ true → P x z) → (b ≡ false → P y t) → P (cond b x y) (cond b z t)
+split-both P true p q = p refl
+split-both P false p q = q refl
+
 -- The same of where i stands: before, in or after the k places from a on.
 pub by-place : {B : Type 0} (a k i : ℕ) → (i < a → B) → (a ≤ i → i < a + k → B) → (a + k ≤ i → B) → B
 by-place a k i before within after = on (leb a i)

@@ -1,13 +1,9 @@
 -- What is known of a call that is answered 0, as the tests of Numbers.antt say it: from the table of numbers.
-use Prim.Native.Nat.{ℕ, _≤_, _<_}
+use Prim.Native.Nat.{ℕ, _<_}
 use mathlib.Core.Path.{_≡_}
 use mathlib.Core.Bool.{true, false}
 use mathlib.Core.Logic.{inl, inr}
-use native.Mathlib.Omega.{arith}
-use lib.Dec.{eqb}
-use borrow.Author.Tests.{eqb-true, eqb-false}
 use Rattle.lists.specs.Functions.{inside}
-use Rattle.lists.proofs.Functions.{on}
 use Rattle.model.specs.Kinds.{Kind, isOperation, barred}
 use Rattle.model.specs.Numbers.{beginAnswer, deliverAnswer, crashAnswer}
 use Rattle.model.proofs.NumberClaims.{is-inside, allowed-tested, numbers-as-listed}
@@ -48,13 +44,3 @@ deliver-taken n phase crashed i h =
 
 pub crash-taken : (n phase crashed i : ℕ) → crashAnswer n phase crashed i ≡ 0 → inside n i ≡ true
 crash-taken n phase crashed i h = is-inside (numbers-as-listed n .crashes phase crashed i .done .0 h .0)
-
--- the phase of a deliver that is answered 0
-pub by-phase {ℓ} : {B : Type ℓ} (p : ℕ) → (p ≡ 0 → ⊥) → p ≤ 5
-    → (p ≡ 1 → B) → (p ≡ 2 → B) → (p ≡ 3 → B) → (p ≡ 4 → B) → (p ≡ 5 → B) → B
-by-phase p z h b1 b2 b3 b4 b5 =
-    on (eqb p 1) (λ e. b1 (eqb-true p 1 e)) (λ e1. let d1 = eqb-false p 1 e1 in
-    on (eqb p 2) (λ e. b2 (eqb-true p 2 e)) (λ e2. let d2 = eqb-false p 2 e2 in
-    on (eqb p 3) (λ e. b3 (eqb-true p 3 e)) (λ e3. let d3 = eqb-false p 3 e3 in
-    on (eqb p 4) (λ e. b4 (eqb-true p 4 e)) (λ e4. let d4 = eqb-false p 4 e4 in
-    b5 (omega arith)))))

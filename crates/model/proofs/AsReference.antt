@@ -1,32 +1,29 @@
 -- Every run from the opening is seen as the reference says.
-use Prim.Native.Nat.{ℕ, _+_, _≤_, _<_}
+use Prim.Native.Nat.{ℕ}
 use native.Mathlib.Nat.{le-refl}
 use native.Mathlib.Omega.{arith}
-use mathlib.Core.Path.{_≡_, refl, sym, ap, _∙_, fun-ext}
-use mathlib.Core.Bool.{Bool, true, false, cond, not, _&&_, _||_}
+use mathlib.Core.Path.{_≡_, refl, sym, ap, _∙_}
+use mathlib.Core.Bool.{cond, not}
 use mathlib.Core.List.{List, [], _∷_}
-use mathlib.Core.Option.{Option, none, some}
+use mathlib.Core.Option.{none, some}
 use lib.Dec.{eqb}
 use borrow.Author.Tests.{eqb-true, eqb-false}
-use Rattle.lists.specs.Functions.{put, within, inside}
-use Rattle.lists.proofs.Functions.{on, apart, put-at, put-same}
-use Rattle.model.specs.Rows.{Row, zeroRow, zeroMatrix}
-use Rattle.model.specs.Records.{Value, Rec, read, write, zeroValue, zeroRecord, opening}
+use Rattle.lists.specs.Functions.{within, inside}
+use Rattle.lists.proofs.Functions.{on, split-both, apart, put-at}
+use Rattle.model.specs.Rows.{zeroRow, zeroMatrix}
+use Rattle.model.specs.Records.{read, zeroValue, zeroRecord, opening}
 use Rattle.model.specs.Kinds.{Kind}
-use Rattle.model.specs.Member.{Member, idle, judged, completed, dropped, outcome, returnedBy}
-use Rattle.model.specs.Host.{Entry, wins, entryAfter, storedAfter}
-use Rattle.model.specs.Board.{Board, noEntry, openingEntry, opened, withMember, submitTaken, replyTaken, sentRecord, commitTaken}
-use Rattle.model.specs.Board.{outcomeTaken, boardDelivered, boardReturned}
-use Rattle.model.specs.Runs.{Call, begin, deliver, crash, Seen, answerOf, done, doneReturns, after, seenAt, run, boards}
+use Rattle.model.specs.Member.{idle, outcome, returnedBy}
+use Rattle.model.specs.Host.{wins}
+use Rattle.model.specs.Board.{Board, noEntry, openingEntry, opened, sentRecord, commitTaken, outcomeTaken, boardReturned}
+use Rattle.model.specs.Runs.{Call, begin, deliver, crash, answerOf, doneReturns, after, seenAt, run, boards}
 use Rattle.model.specs.ReplyChecks.{CheckedAt, Checked}
-use Rattle.model.specs.Reference.{RefMember, Reference, refIdle, refOpened, refWith, refMoved, refSubmit, refReply, refCommit}
-use Rattle.model.specs.Reference.{refAbort}
-use Rattle.model.specs.Reference.{refAccept, refEnd, refReturned, refDelivered, refAnswer, refDone, refDoneReturns, refAfter}
-use Rattle.model.specs.Reference.{refSeen, refRun}
-use Rattle.model.proofs.Answers.{BeginTaken, begin-taken, deliver-taken, by-phase}
-use Rattle.model.proofs.Order.{_≼_, Ordered, up, ≼-refl}
-use Rattle.model.proofs.Invariant.{marked, SlotInv, MemberInv, Inv}
-use Rattle.model.proofs.Phases.{Delivers, StepMoves, step-moves, from-two}
+use Rattle.model.specs.Reference.{Reference, refIdle, refOpened, refReply, refCommit, refEnd, refReturned, refAnswer, refDone}
+use Rattle.model.specs.Reference.{refDoneReturns, refAfter, refSeen, refRun}
+use Rattle.model.proofs.Steps.{Taken, begins, submits, replies, commits, ends, crashes, taken, by-verdict, ref-phase}
+use Rattle.model.proofs.Order.{up, ≼-refl}
+use Rattle.model.proofs.Invariant.{SlotInv, Inv}
+use Rattle.model.proofs.Phases.{Delivers, step-moves, from-two}
 use Rattle.model.proofs.InvariantMember.{checks-pass, begin-keeps, reply-keeps, abort-keeps, completed-keeps, dropped-keeps}
 use Rattle.model.proofs.InvariantMember.{crash-keeps}
 use Rattle.model.proofs.InvariantHost.{submit-keeps, accept-keeps}
@@ -73,58 +70,15 @@ opened-inv n = record {
   };
 }
 
--- Each phase of a deliver, on the board and in the reference.
-
-pub board-phase : (n : ℕ) (b : Board) (i p : ℕ) → b .members i .phase ≡ p
-    → boardDelivered n b i ≡ cond (eqb p 1) (submitTaken b i) (cond (eqb p 2) (replyTaken n b i)
-    (cond (eqb p 3) (commitTaken b i) (outcomeTaken b i (eqb p 4))))
-unfolding boardDelivered
-board-phase n b i p e = rw e
-
-ref-phase : (ref : Reference) (i p : ℕ) → ref .members i .phase ≡ p
-    → refDelivered ref i ≡ cond (eqb p 1) (refSubmit ref i) (cond (eqb p 2) (refReply ref i) (cond (eqb p 3) (refCommit ref i) (refEnd ref i)))
-unfolding refDelivered
-ref-phase ref i p e = rw e
-
--- an aborted commit leaves the host as it was
-aborted : (b : Board) (i : ℕ) → marked (b .host (b .members i .slot)) i (b .members i .own (b .members i .slot)) ≡ false
-    → commitTaken b i ≡ withMember b i (judged (b .members i) false)
-unfolding commitTaken wins entryAfter storedAfter sentRecord withMember
-aborted b i lost =
-    let r = b .members i .slot in
-    rw lost (λ t. record {
-      members = put (b .members) i (judged (b .members i) false);
-      host = put-same (b .host) r t;
-      stored = put-same (b .stored) r t;
-    })
-
+-- What a commit leaves is kept, by its verdict.
 commit-keeps : {n : ℕ} {b : Board} {ref : Reference} (inv : Inv n b ref) (i : ℕ) → b .members i .phase ≡ 3
     → Inv n (commitTaken b i) (refCommit ref i)
-unfolding refCommit
+unfolding refCommit wins sentRecord
 commit-keeps {n} {b} {ref} inv i e =
-    on (marked (b .host (b .members i .slot)) i (b .members i .own (b .members i .slot)))
+    let over = inv .members i .mark (omega arith) (omega arith) in
+    by-verdict (λ x. Inv n x (refCommit ref i)) b i
     (λ won. rw (over ∙ ap not won) (accept-keeps inv i e won))
-    (λ lost. rw (over ∙ ap not lost, aborted b i lost) (abort-keeps inv i e))
-  where
-    over : ref .members i .overtaken ≡ not (marked (b .host (b .members i .slot)) i (b .members i .own (b .members i .slot)))
-    over = inv .members i .mark (omega arith) (omega arith)
-
-deliver-keeps : {n : ℕ} {b : Board} {ref : Reference} (inv : Inv n b ref) (i : ℕ) → (b .members i .phase ≡ 0 → ⊥)
-    → Inv n (boardDelivered n b i) (refDelivered ref i)
-unfolding refReply refEnd outcomeTaken outcome
-deliver-keeps {n} {b} {ref} inv i z =
-    by-phase p z (inv .members i .fine)
-    (λ e. rw (board-phase n b i 1 e, ref-phase ref i 1 (same e)) (submit-keeps inv i e))
-    (λ e. rw (board-phase n b i 2 e, ref-phase ref i 2 (same e)) (reply-keeps inv i e))
-    (λ e. rw (board-phase n b i 3 e, ref-phase ref i 3 (same e)) (commit-keeps inv i e))
-    (λ e. rw (board-phase n b i 4 e, ref-phase ref i 4 (same e)) (completed-keeps inv i e))
-    (λ e. rw (board-phase n b i 5 e, ref-phase ref i 5 (same e)) (dropped-keeps inv i e))
-  where
-    p : ℕ
-    p = b .members i .phase
-
-    same : {q : ℕ} → b .members i .phase ≡ q → ref .members i .phase ≡ q
-    same e = sym (inv .members i .phase) ∙ e
+    (λ lost. rw (over ∙ ap not lost) (abort-keeps inv i e))
 
 module _ (kind : Kind) where
   -- The answers are the same, since the members' phases, marks and counts are.
@@ -138,20 +92,28 @@ module _ (kind : Kind) where
 
   -- A call that is answered 0, and any call.
 
-  done-keeps : {n : ℕ} {b : Board} {ref : Reference} (inv : Inv n b ref) (call : Call) → answerOf kind n b call ≡ 0
-      → Inv n (done n b call) (refDone ref call)
-  unfolding answerOf done refDone
-  done-keeps {n} {b} inv (begin i r t v) h =
-      let m = b .members i in begin-keeps inv i r t v (begin-taken kind n (m .phase) (m .crashed) (m .own r) i r t h)
-  done-keeps {n} {b} inv (deliver i) h =
-      let m = b .members i in deliver-keeps inv i (deliver-taken n (m .phase) (m .crashed) i h .notIdle)
-  done-keeps inv (crash i) h = crash-keeps inv i
+  taken-keeps : {n : ℕ} {b next : Board} {ref : Reference} {call : Call} → Taken kind n b call next → Inv n b ref → Inv n next (refDone ref call)
+  unfolding refDone refReply refEnd outcomeTaken outcome
+  taken-keeps (begins i r t v k) inv = begin-keeps inv i r t v k
+  taken-keeps {ref = ref} (submits i p e) inv = rw (ref-phase ref i 1 (sym (inv .members i .phase) ∙ e)) (submit-keeps inv i e)
+  taken-keeps {ref = ref} (replies i p e) inv = rw (ref-phase ref i 2 (sym (inv .members i .phase) ∙ e)) (reply-keeps inv i e)
+  taken-keeps {ref = ref} (commits i p e) inv = rw (ref-phase ref i 3 (sym (inv .members i .phase) ∙ e)) (commit-keeps inv i e)
+  taken-keeps {b = b} {ref = ref} (ends i p l six) inv =
+      let m = b .members i in
+      let fine = inv .members i .fine in
+      on (eqb (m .phase) 4)
+      (λ f. let e : m .phase ≡ 4 = eqb-true (m .phase) 4 f in
+      rw (f, ref-phase ref i 4 (sym (inv .members i .phase) ∙ e)) (completed-keeps inv i e))
+      (λ f. let d : m .phase ≡ 4 → ⊥ = eqb-false (m .phase) 4 f in let e : m .phase ≡ 5 = omega arith in
+      rw (f, ref-phase ref i 5 (sym (inv .members i .phase) ∙ e)) (dropped-keeps inv i e))
+  taken-keeps (crashes i p) inv = crash-keeps inv i
 
   pub step-keeps : {n : ℕ} {b : Board} {ref : Reference} (inv : Inv n b ref) (call : Call)
       → Inv n (after kind n b call) (refAfter kind n ref call)
   unfolding after refAfter
-  step-keeps {n} {b} {ref} inv call = rw (← (same-answer inv call))
-      (on (eqb (answerOf kind n b call) 0) (λ p. rw p (done-keeps inv call (eqb-true (answerOf kind n b call) 0 p))) (λ p. rw p inv))
+  step-keeps {n} {b} {ref} inv call = rw (← (same-answer inv call)) (split-both (Inv n) (eqb (answerOf kind n b call) 0)
+      (λ e. taken-keeps (taken kind n b call (eqb-true (answerOf kind n b call) 0 e)) inv)
+      (λ e. inv))
 
   same-returned : {n : ℕ} {b : Board} {ref : Reference} (inv : Inv n b ref) (call : Call)
       → doneReturns b call ≡ refDoneReturns ref call

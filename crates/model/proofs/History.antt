@@ -1,27 +1,28 @@
 -- The history's half of demand 3, of the reference alone, for every kind, every n and every list of calls. Assumes nothing.
-use Prim.Native.Nat.{ℕ, _+_}
+use Prim.Native.Nat.{ℕ}
 use mathlib.Core.Path.{_≡_, refl, ap}
-use mathlib.Core.Bool.{true, cond}
+use mathlib.Core.Bool.{cond}
 use mathlib.Core.List.{List, [], _∷_}
 use mathlib.Core.Option.{none}
 use native.Mathlib.Omega.{arith}
 use lib.Dec.{eqb}
-use Rattle.lists.specs.Functions.{inside}
-use Rattle.lists.proofs.Functions.{on, apart}
+use borrow.Author.Tests.{eqb-true}
+use Rattle.lists.proofs.Functions.{split-both}
 use Rattle.model.specs.Kinds.{Kind}
-use Rattle.model.specs.Numbers.{deliverAnswer}
 use Rattle.model.specs.Board.{Board}
-use Rattle.model.specs.Runs.{Call, begin, deliver, crash, Seen}
-use Rattle.model.specs.Reference.{Reference, refIdle, refOpened, refAnswer, refDone, refDoneReturns, refAfter, refSeen, refRun, refLeft}
-use Rattle.model.specs.History.{Watch, noOp, watchCall, watchStep, watchFrom, nothingYet, watched, acceptedOf, lastWritten}
+use Rattle.model.specs.Runs.{Call, Seen}
+use Rattle.model.specs.Reference.{Reference, refIdle, refOpened, refAnswer, refDone, refDoneReturns, refAfter, refSeen, refRun}
+use Rattle.model.specs.Reference.{refLeft}
+use Rattle.model.specs.History.{Watch, noOp, watchStep, watchFrom, nothingYet, watched, acceptedOf, lastWritten}
 use Rattle.lists.specs.Every.{Every}
 use Rattle.model.specs.ReplyChecks.{Checked}
 use Rattle.model.specs.Demand3.{Demand3}
+use Rattle.model.proofs.Steps.{ref-taken}
 use Rattle.model.proofs.Phases.{run-moves}
 use Rattle.model.proofs.Positions.{positions-of}
 use Rattle.model.proofs.HistoryInvariant.{Agrees}
-use Rattle.model.proofs.HistoryLists.{split-both, every, serial-of, realTime-of}
-use Rattle.model.proofs.HistorySteps.{refused-step, begin-step, crash-step, deliver-step}
+use Rattle.model.proofs.HistoryLists.{every, serial-of, realTime-of}
+use Rattle.model.proofs.HistorySteps.{refused-step, agree-taken}
 
 -- at first nobody runs anything, and nothing has happened
 agree-opened : Agrees refOpened nothingYet
@@ -40,26 +41,12 @@ agree-opened = record {
   book = record { written = λ r. refl; accepted = refl };
 }
 
--- a deliver that is answered 0 finds an operation running
-deliver-runs : (n phase crashed i : ℕ) → eqb (deliverAnswer n phase crashed i) 0 ≡ true → phase ≡ 0 → ⊥
-unfolding deliverAnswer
-deliver-runs n phase crashed i e z = apart e (rw z (on (inside n i) (λ a. rw a) (λ a. rw a)))
-
 module _ (kind : Kind) (n : ℕ) where
-  agree-done : (ref : Reference) (w : Watch) → Agrees ref w → (call : Call) (s : Seen) → eqb (refAnswer kind n ref call) 0 ≡ true
-      → ((k : ℕ) → s .phases k ≡ refDone ref call .members k .phase) → s .returned ≡ refDoneReturns ref call
-      → Agrees (refDone ref call) (watchCall w (w .steps + 1) call s)
-  unfolding refDone watchCall refDoneReturns refAnswer
-  agree-done ref w h (begin i r t v) s e p b = begin-step ref w h i r t v
-  agree-done ref w h (deliver i) s e p b =
-      deliver-step ref w h i s (deliver-runs n (ref .members i .phase) (ref .members i .crashed) i e) b (p i)
-  agree-done ref w h (crash i) s e p b = crash-step ref w h i
-
   agree-after : (ref : Reference) (w : Watch) → Agrees ref w → (call : Call)
       → Agrees (refAfter kind n ref call) (watchStep w call (refSeen kind n ref call))
   unfolding refAfter watchStep refSeen
   agree-after ref w h call = split-both Agrees (eqb (refAnswer kind n ref call) 0)
-      (λ e. agree-done ref w h call (refSeen kind n ref call) e
+      (λ e. agree-taken (ref-taken kind n ref call (eqb-true (refAnswer kind n ref call) 0 e)) w h (refSeen kind n ref call)
       (λ k. ap (λ t. cond t (refDone ref call) ref .members k .phase) e)
       (ap (λ t. cond t (refDoneReturns ref call) none) e))
       (λ e. refused-step ref w h)

@@ -2,28 +2,18 @@
 -- Assumes nothing.
 use Prim.Native.Nat.{ℕ, _≤_, _<_}
 use mathlib.Core.Path.{_≡_, refl, sym, ap, _∙_}
-use mathlib.Core.Bool.{Bool, true, false, cond, _&&_, _||_}
+use mathlib.Core.Bool.{false, cond, _&&_, _||_}
 use mathlib.Core.List.{List, [], _∷_, map}
 use mathlib.Core.Option.{Option, some}
 use native.Mathlib.Omega.{arith}
 use lib.Dec.{eqb, ltb}
 use borrow.Author.Tests.{eqb-true, eqb-false, le-ltb, lt-ltb}
-use Rattle.lists.proofs.Functions.{on, fails}
+use Rattle.lists.proofs.Functions.{on, fails, split, split-both}
 use Rattle.model.specs.Records.{Value, write}
 use Rattle.model.specs.History.{Op, Submit, endedOp, ended, acceptedOf, lastWritten, contested}
 use Rattle.lists.specs.Every.{Every}
 use Rattle.model.specs.Demand3.{Serial, RealTime}
 use Rattle.model.proofs.HistoryInvariant.{Right, Reads, Pending}
-
--- What holds on either side of a test holds of its outcome, or of its two outcomes.
-pub split : {A : Type 0} (P : A → Type 0) (b : Bool) {x y : A} → (b ≡ true → P x) → (b ≡ false → P y) → P (cond b x y)
-split P true p q = p refl
-split P false p q = q refl
-
-pub split-both : {A B : Type 0} (P : A → B → Type 0) (b : Bool) {x y : A} {z t : B} → (b ≡ true → P x z) → (b ≡ false → P y t)
-    → P (cond b x y) (cond b z t)
-split-both P true p q = p refl
-split-both P false p q = q refl
 
 pub every : {A : Type 0} {P Q : A → Type 0} → ((x : A) → P x → Q x) → (l : List A) → Every P l → Every Q l
 every f [] h = tt

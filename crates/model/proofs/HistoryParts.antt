@@ -8,13 +8,14 @@ use native.Mathlib.Omega.{arith}
 use lib.Dec.{eqb}
 use borrow.Author.Tests.{eqb-true, eqb-false, eq-eqb, ne-eqb}
 use Rattle.lists.specs.Functions.{put}
-use Rattle.lists.proofs.Functions.{on, apart, both, first, second, fails}
+use Rattle.lists.proofs.Functions.{on, apart, both, first, second, fails, split}
 use Rattle.model.specs.Records.{Value, write}
 use Rattle.model.specs.Reference.{Operation, RefMember, refOvertaken, submittedOn, operationOf}
 use Rattle.model.specs.History.{Op, Submit, decidedOp, endedOp, ended, acceptedOf, lastWritten, contested}
 use Rattle.lists.specs.Every.{Every}
 use Rattle.model.proofs.HistoryInvariant.{Running, RunningAt, Pending, Judged, Past, Book}
-use Rattle.model.proofs.HistoryLists.{split, every, contested-within, contested-past, every-ended, contested-ended, last-ended, givens-ended, reads-ended, realTime-ended}
+use Rattle.model.proofs.HistoryLists.{every, contested-within, contested-past, every-ended, contested-ended, last-ended}
+use Rattle.model.proofs.HistoryLists.{givens-ended, reads-ended, realTime-ended}
 
 -- A step later.
 

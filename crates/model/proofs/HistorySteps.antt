@@ -6,32 +6,20 @@ use mathlib.Core.Bool.{Bool, true, false, cond, not}
 use mathlib.Core.List.{List, _∷_}
 use mathlib.Core.Option.{some}
 use native.Mathlib.Omega.{arith}
-use lib.Dec.{eqb}
-use borrow.Author.Tests.{eqb-true, eqb-false, eq-eqb}
+use borrow.Author.Tests.{eq-eqb}
 use Rattle.lists.specs.Functions.{put}
-use Rattle.lists.proofs.Functions.{apart, put-at, put-off}
+use Rattle.lists.proofs.Functions.{put-all, put-both, apart, put-at, split}
 use Rattle.model.specs.Records.{Value, read}
-use Rattle.model.specs.Runs.{Seen}
-use Rattle.model.specs.Reference.{Operation, RefMember, Reference, refBegun, refMoved, refOvertaken, submittedOn, refSubmit, refReply, refAccepted, operationOf, refAccept, refAbort, refCommit, refEnded, refEnd, refReturned, refDelivered, refMarked}
-use Rattle.model.specs.History.{Op, Submit, Watch, begunOp, submittedOp, submitOf, decidedOp, ended, watchDeliver}
+use Rattle.model.specs.Runs.{Call, Seen}
+use Rattle.model.specs.Reference.{Operation, RefMember, Reference, refBegun, refMoved, refOvertaken, submittedOn, refSubmit}
+use Rattle.model.specs.Reference.{refReply, refAccepted, operationOf, refAccept, refAbort, refEnded, refEnd, refReturned}
+use Rattle.model.specs.Reference.{refMarked, refDoneReturns}
+use Rattle.model.specs.History.{Op, Submit, Watch, begunOp, submittedOp, submitOf, decidedOp, ended, watchDeliver, watchCall}
+use Rattle.model.proofs.Steps.{RefTaken, begins, submits, replies, aborts, accepts, ends, crashes}
 use Rattle.model.proofs.HistoryInvariant.{RunningAt, Right, PendingAt, Past, Book, Agrees}
-use Rattle.model.proofs.HistoryParts.{running-later, running-moved, past-later, past-submit, past-decided, past-ended, book-aborted, book-accepted, book-ended, bystander}
-use Rattle.model.proofs.HistoryLists.{split, contested-none, pending-ended}
-
--- One member touched: what holds of it and of all others holds of all.
-
-touched : {A : Type 0} (P : ℕ → A → Type 0) (f : ℕ → A) (i : ℕ) (v : A) → P i v
-    → ((k : ℕ) → (k ≡ i → ⊥) → P k (f k)) → (k : ℕ) → P k (put f i v k)
-unfolding put
-touched P f i v here off k = split (P k) (eqb k i)
-    (λ e. let d : k ≡ i = eqb-true k i e in rw d here)
-    (λ e. off k (eqb-false k i e))
-
-touched-both : {A B : Type 0} (P : ℕ → A → B → Type 0) (f : ℕ → A) (g : ℕ → B) (i : ℕ) (a : A) (b : B) → P i a b
-    → ((k : ℕ) → (k ≡ i → ⊥) → P k (f k) (g k)) → (k : ℕ) → P k (put f i a k) (put g i b k)
-touched-both P f g i a b here off = touched (λ k x. P k x (put g i b k)) f i a
-    (rw (put-at g i b) here)
-    (λ k d. rw (put-off g i b k d) (off k d))
+use Rattle.model.proofs.HistoryParts.{running-later, running-moved, past-later, past-submit, past-decided, past-ended}
+use Rattle.model.proofs.HistoryParts.{book-aborted, book-accepted, book-ended, bystander}
+use Rattle.model.proofs.HistoryLists.{contested-none, pending-ended}
 
 -- a call that was refused
 pub refused-step : (ref : Reference) (w : Watch) → Agrees ref w
@@ -57,21 +45,21 @@ module _ (ref : Reference) (w : Watch) (h : Agrees ref w) (i : ℕ) where
       (record { values = values; members = put (ref .members) i m; history = history })
       (record { steps = w .steps + 1; running = w .running; submits = w .submits; decided = ops })
   moved m values history ops r p o past book = record {
-    running = touched (λ k x. RunningAt (w .submits) (w .steps + 1) k x (w .running k)) (ref .members) i m r
+    running = put-all (λ k x. RunningAt (w .submits) (w .steps + 1) k x (w .running k)) (ref .members) i m r
         (λ k d. running-later (h .running k));
-    pending = touched (PendingAt ops) (ref .members) i m p o;
+    pending = put-all (PendingAt ops) (ref .members) i m p o;
     past = past;
     book = book;
   }
 
-  pub crash-step : Agrees
+  crash-step : Agrees
       (record { values = ref .values; members = put (ref .members) i (refMarked (ref .members i)); history = ref .history })
       (record { steps = w .steps + 1; running = w .running; submits = w .submits; decided = w .decided })
   unfolding refMarked operationOf refReturned
   crash-step = moved (refMarked (ref .members i)) (ref .values) (ref .history) (w .decided)
       (running-later (h .running i)) (h .pending i) (λ k d. h .pending k) (past-later (h .past)) (h .book)
 
-  pub begin-step : (r t : ℕ) (v : Value) → Agrees
+  begin-step : (r t : ℕ) (v : Value) → Agrees
       (record { values = ref .values; members = put (ref .members) i (refBegun (ref .members i) r t v); history = ref .history })
       (record {
         steps = w .steps + 1;
@@ -81,7 +69,7 @@ module _ (ref : Reference) (w : Watch) (h : Agrees ref w) (i : ℕ) where
       })
   unfolding refBegun begunOp operationOf
   begin-step r t v = record {
-    running = touched-both (RunningAt (w .submits) (w .steps + 1)) (ref .members) (w .running) i
+    running = put-both (RunningAt (w .submits) (w .steps + 1)) (ref .members) (w .running) i
         (refBegun (ref .members i) r t v) (begunOp (w .steps + 1) i r t v (w .running i))
         (record {
           noHalt = omega arith;
@@ -92,7 +80,7 @@ module _ (ref : Reference) (w : Watch) (h : Agrees ref w) (i : ℕ) where
           contest = λ p. absurd (omega arith);
         })
         (λ k d. running-later (h .running k));
-    pending = touched (PendingAt (w .decided)) (ref .members) i (refBegun (ref .members i) r t v)
+    pending = put-all (PendingAt (w .decided)) (ref .members) i (refBegun (ref .members i) r t v)
         (λ p. absurd (omega arith))
         (λ k d. h .pending k);
     past = past-later (h .past);
@@ -131,7 +119,7 @@ module _ (ref : Reference) (w : Watch) (h : Agrees ref w) (i : ℕ) (s : Seen) w
       let others : ℕ → RefMember =
       λ k. cond (submittedOn (m .slot) (ref .members k)) (refOvertaken (ref .members k)) (ref .members k) in
       rw (seen ∙ phase-at _ i _) (record {
-        running = touched-both (RunningAt submits (w .steps + 1)) others (w .running) i (refMoved m 2) (submittedOp (w .steps + 1) o)
+        running = put-both (RunningAt submits (w .steps + 1)) others (w .running) i (refMoved m 2) (submittedOp (w .steps + 1) o)
             (record {
               noHalt = omega arith;
               asGiven = λ p. g;
@@ -143,7 +131,7 @@ module _ (ref : Reference) (w : Watch) (h : Agrees ref w) (i : ℕ) (s : Seen) w
             })
             (λ k d. bystander k (ref .members k) (w .running k) (w .submits) (w .steps) (h .running k)
             (submitOf (w .steps + 1) i o) refl (m .slot) (ap (λ x. x .slot) g));
-        pending = touched (PendingAt (w .decided)) others i (refMoved m 2)
+        pending = put-all (PendingAt (w .decided)) others i (refMoved m 2)
             (λ p. absurd (omega arith))
             (λ k d. split (PendingAt (w .decided) k) (submittedOn (m .slot) (ref .members k))
             (λ e. h .pending k)
@@ -182,23 +170,26 @@ module _ (ref : Reference) (w : Watch) (h : Agrees ref w) (i : ℕ) (s : Seen) w
       (won ∙ ap not (h .running i .contest (omega arith) (omega arith) (w .steps + 1) a (omega arith))))
       book)
 
-  -- aborted if overtaken, else accepted
-  commit-step : ref .members i .phase ≡ 3 → Kept (refCommit ref i)
-  unfolding refCommit refAbort refAccept refMoved refAccepted refReturned operationOf decidedOp
-  commit-step three =
-      let m = ref .members i in
-      let g : w .running i .given ≡ operationOf i m = h .running i .asGiven (omega arith) in
-      split Kept (m .overtaken)
-      (λ a seen. verdict-step false (refMoved m 5) (ref .values) (ref .history)
-      three (seen ∙ phase-at _ i _) (rw a)
+  -- aborted
+  abort-step : ref .members i .phase ≡ 3 → ref .members i .overtaken ≡ true → Kept (refAbort ref i)
+  unfolding refAbort refMoved refReturned operationOf decidedOp
+  abort-step three over seen = verdict-step false (refMoved (ref .members i) 5) (ref .values) (ref .history)
+      three (seen ∙ phase-at _ i _) (rw over)
       (running-moved (h .running i) 5 (omega arith) (omega arith) (omega arith) (omega arith))
       (λ b. absurd (apart b refl))
-      (book-aborted (h .book) (w .steps + 1) (w .running i)))
-      (λ a seen. verdict-step true (refAccepted m (ref .values (m .slot))) (refAccept ref i .values) (refAccept ref i .history)
-      three (seen ∙ phase-at _ i _) (rw a)
+      (book-aborted (h .book) (w .steps + 1) (w .running i))
+
+  -- accepted
+  accept-step : ref .members i .phase ≡ 3 → ref .members i .overtaken ≡ false → Kept (refAccept ref i)
+  unfolding refAccept refAccepted refReturned operationOf decidedOp
+  accept-step three over seen =
+      let m = ref .members i in
+      let g : w .running i .given ≡ operationOf i m = h .running i .asGiven (omega arith) in
+      verdict-step true (refAccepted m (ref .values (m .slot))) (refAccept ref i .values) (refAccept ref i .history)
+      three (seen ∙ phase-at _ i _) (rw over)
       (running-moved (h .running i) 4 (omega arith) (omega arith) (omega arith) (omega arith))
       (rw g (λ b t. rw (eq-eqb (m .operation) read t) (ap some (h .book .written (m .slot)))))
-      (book-accepted (h .book) (w .steps + 1) (w .running i) (operationOf i m) g))
+      (book-accepted (h .book) (w .steps + 1) (w .running i) (operationOf i m) g)
 
   -- the outcome is taken
   end-step : 4 ≤ ref .members i .phase → s .returned ≡ refReturned (ref .members i) → Kept (refEnd ref i)
@@ -219,14 +210,15 @@ module _ (ref : Reference) (w : Watch) (h : Agrees ref w) (i : ℕ) (s : Seen) w
       (past-ended (h .past) i (s .returned) (rw back (h .pending i four)))
       (book-ended (h .book) i (w .steps + 1) (s .returned)))
 
-  pub deliver-step : (ref .members i .phase ≡ 0 → ⊥) → s .returned ≡ refReturned (ref .members i) → Kept (refDelivered ref i)
-  unfolding refDelivered
-  deliver-step runs back =
-      let p = ref .members i .phase in
-      split Kept (eqb p 1) (λ e. submit-step (eqb-true p 1 e)) (λ a.
-      split Kept (eqb p 2) (λ e. reply-step (eqb-true p 2 e)) (λ b.
-      split Kept (eqb p 3) (λ e. commit-step (eqb-true p 3 e)) (λ c.
-      let x : p ≡ 1 → ⊥ = eqb-false p 1 a in
-      let y : p ≡ 2 → ⊥ = eqb-false p 2 b in
-      let z : p ≡ 3 → ⊥ = eqb-false p 3 c in
-      end-step (omega arith) back)))
+-- Every step.
+pub agree-taken : {ref next : Reference} {call : Call} → RefTaken ref call next → (w : Watch) → Agrees ref w → (s : Seen)
+    → ((k : ℕ) → s .phases k ≡ next .members k .phase) → s .returned ≡ refDoneReturns ref call
+    → Agrees next (watchCall w (w .steps + 1) call s)
+unfolding watchCall refDoneReturns
+agree-taken {ref} (begins i r t v e) w h s p b = begin-step ref w h i r t v
+agree-taken {ref} (submits i e) w h s p b = submit-step ref w h i s e (p i)
+agree-taken {ref} (replies i e) w h s p b = reply-step ref w h i s e (p i)
+agree-taken {ref} (aborts i e o) w h s p b = abort-step ref w h i s e o (p i)
+agree-taken {ref} (accepts i e o) w h s p b = accept-step ref w h i s e o (p i)
+agree-taken {ref} (ends i l) w h s p b = end-step ref w h i s l b (p i)
+agree-taken {ref} (crashes i) w h s p b = crash-step ref w h i

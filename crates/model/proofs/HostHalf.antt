@@ -13,54 +13,12 @@ use Rattle.model.specs.Records.{Rec, read, write, opening}
 use Rattle.model.specs.Kinds.{isOperation, barred, becomesStored}
 use Rattle.model.specs.Host.{Entry, submitted, wins, entryAfter, storedAfter}
 use Rattle.model.specs.Board.{opened, openingEntry}
-use Rattle.model.specs.Published.{
-  Id,
-  idOf,
-  sameId,
-  Server,
-  serverOpened,
-  ToServer,
-  submit,
-  commit,
-  submitR,
-  commitR,
-  line54,
-  line54noted,
-  line55,
-  line56,
-  line58,
-  line59,
-  line59noted,
-  line512writes,
-  line513,
-  received,
-  answerTo,
-  serverAnswers,
-}
-use Rattle.model.specs.HostClaims.{
-  Half,
-  halfOpened,
-  halfAfter,
-  halfAnswer,
-  halfAnswers,
-  fits,
-  idIn,
-  allFit,
-  notedAfter,
-  notedAnswer,
-  notedAnswers,
-  eachOnce,
-  noneWaiting,
-  unasked,
-  repeated,
-  resubmitted,
-  onSlot1,
-  sample,
-  sampleAnswers,
-  HalfAsPublished,
-  HalfDiffers,
-  SampleHolds,
-}
+use Rattle.model.specs.Published.{Id, idOf, sameId, Server, serverOpened, ToServer, submit, commit, submitR, commitR, line54}
+use Rattle.model.specs.Published.{line54noted, line55, line56, line58, line59, line59noted, line512writes, line513, received}
+use Rattle.model.specs.Published.{answerTo, serverAnswers}
+use Rattle.model.specs.HostClaims.{Half, halfOpened, halfAfter, halfAnswer, halfAnswers, fits, idIn, allFit, notedAfter}
+use Rattle.model.specs.HostClaims.{notedAnswer, notedAnswers, eachOnce, noneWaiting, unasked, repeated, resubmitted, onSlot1}
+use Rattle.model.specs.HostClaims.{sample, sampleAnswers, HalfAsPublished, HalfDiffers, SampleHolds}
 
 -- Ids.
 

@@ -1,23 +1,24 @@
 -- Steps that change the host: a submit taken, a commit accepted.
-use Prim.Native.Nat.{ℕ, _+_, _≤_, _<_}
+use Prim.Native.Nat.{ℕ, _≤_}
 use native.Mathlib.Omega.{arith}
 use mathlib.Core.Path.{_≡_, refl, sym, ap, _∙_}
-use mathlib.Core.Bool.{Bool, true, false, cond, not, _&&_, _||_}
+use mathlib.Core.Bool.{Bool, true, false, cond, not, _||_}
 use mathlib.Core.List.{List, _∷_}
-use lib.Dec.{eqb, leb}
+use lib.Dec.{eqb}
 use borrow.Author.Tests.{eqb-true, eqb-false, eq-eqb, ne-eqb}
-use Rattle.lists.specs.Functions.{put, inside}
+use Rattle.lists.specs.Functions.{put}
 use Rattle.lists.proofs.Functions.{on, first, second, apart, put-at, put-off, put-same, put-all, put-both, inside-low}
-use Rattle.model.specs.Rows.{Row, Matrix}
-use Rattle.model.specs.Records.{Value, Rec, read, write}
+use Rattle.model.specs.Rows.{Row}
+use Rattle.model.specs.Records.{Value, Rec, write}
 use Rattle.model.specs.Kinds.{becomesStored}
 use Rattle.model.specs.Member.{Member, answered, judged}
 use Rattle.model.specs.Host.{Entry, submitted, wins, entryAfter, storedAfter}
 use Rattle.model.specs.Board.{Board, submitTaken, sentRecord, commitTaken}
-use Rattle.model.specs.Reference.{Operation, RefMember, Reference, changed, refMoved, refOvertaken, submittedOn, refSubmit, refAccepted, operationOf, refAccept}
+use Rattle.model.specs.Reference.{Operation, RefMember, Reference, changed, refMoved, refOvertaken, submittedOn, refSubmit}
+use Rattle.model.specs.Reference.{refAccepted, operationOf, refAccept}
 use Rattle.model.proofs.Order.{_≼_, Ordered, up, down, ≼-refl, ≼-trans}
 use Rattle.model.proofs.InvariantMember.{stepped}
-use Rattle.model.proofs.Invariant.{Tops, Grown, was, isNew, SlotInv, countOn, marked, Running, Replied, Current, Committed, Extends, Accepted, MemberInv, Inv}
+use Rattle.model.proofs.Invariant.{Tops, Grown, was, isNew, SlotInv, countOn, marked, Running, Extends, MemberInv, Inv}
 
 -- Another member while a slot's entry changes: only whether its own operation is overtaken may have changed. `over` is what the
 -- reference says of that now.

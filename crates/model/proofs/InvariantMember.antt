@@ -1,27 +1,27 @@
 -- Steps that change one member and leave the host as it is: begin, the reply's checks, the outcome, a crash.
-use Prim.Native.Nat.{ℕ, _+_, _≤_, _<_}
+use Prim.Native.Nat.{ℕ, _+_, _≤_}
 use native.Mathlib.Nat.{le-refl}
 use native.Mathlib.Omega.{arith}
-use mathlib.Core.Path.{_≡_, refl, sym, ap, _∙_, subst}
-use mathlib.Core.Bool.{Bool, true, false, cond, not, _&&_, _||_}
-use mathlib.Core.Logic.{_⊎_, inl, inr, ⊎-elim}
+use mathlib.Core.Path.{_≡_, refl, sym, ap, _∙_}
+use mathlib.Core.Bool.{Bool, true, false, not, _||_}
+use mathlib.Core.Logic.{⊎-elim}
 use lib.Dec.{eqb, leb}
-use borrow.Author.Tests.{eqb-true, eqb-false, eq-eqb, ne-eqb, le-leb, not-true, not-false}
-use Rattle.lists.specs.Functions.{put, inside, each}
+use borrow.Author.Tests.{eqb-true, eqb-false, eq-eqb, ne-eqb, le-leb, not-false}
+use Rattle.lists.specs.Functions.{put}
 use Rattle.lists.proofs.Functions.{on, put-at, put-off, put-all, put-both, each-all}
-use Rattle.model.specs.Rows.{Row, Matrix, larger, comparable}
-use Rattle.model.specs.Records.{Value, Rec, read, write}
+use Rattle.model.specs.Rows.{Row, Matrix, comparable}
+use Rattle.model.specs.Records.{Value, Rec, write}
 use Rattle.model.specs.Kinds.{Kind, barred}
-use Rattle.model.specs.Member.{Member, begun, replied, passed, ownRecord, joined, haltNumber, completed, dropped, crashedOf, judged, moved, tookOver}
-use Rattle.model.specs.Member.{check21, check22, check23, check24, check25, check26, check27}
+use Rattle.model.specs.Member.{Member, begun, replied, passed, ownRecord, joined, haltNumber, completed, dropped, crashedOf}
+use Rattle.model.specs.Member.{judged, moved, tookOver, check21, check22, check23, check24, check25, check26, check27}
 use Rattle.model.specs.ReplyChecks.{AllPass}
 use Rattle.model.specs.Host.{Entry}
-use Rattle.model.specs.Board.{Board, withMember, boardBegun, replyTaken, outcomeTaken, boardCrashed}
+use Rattle.model.specs.Board.{Board, withMember, boardBegun, replyTaken, boardCrashed}
 use Rattle.model.specs.Reference.{RefMember, Reference, changed, refBegun, refMoved, refMarked, refAbort, refEnded, refWith}
 use Rattle.model.proofs.Rows.{larger-either}
-use Rattle.model.proofs.Order.{_≼_, Ordered, ≼-refl, ≼-raised, ≼-matrixBelow, ordered-comparable, larger-above}
+use Rattle.model.proofs.Order.{_≼_, ≼-raised, ≼-matrixBelow, ordered-comparable, larger-above}
 use Rattle.model.proofs.Answers.{BeginTaken}
-use Rattle.model.proofs.Invariant.{Tops, countOn, marked, Running, Replied, Current, Committed, Extends, Accepted, MemberInv, Inv}
+use Rattle.model.proofs.Invariant.{Tops, countOn, marked, Replied, Current, Committed, Extends, Accepted, MemberInv, Inv}
 use Rattle.model.specs.Member
 
 -- One member touched, with the counts that the tops have for it kept.

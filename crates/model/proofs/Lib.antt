@@ -8,6 +8,7 @@ pub mod InvariantHost
 pub mod AsReference
 pub mod HistoryInvariant
 pub mod HistoryLists
+pub mod Steps
 pub mod Phases
 pub mod Ordinals
 pub mod PositionsInvariant

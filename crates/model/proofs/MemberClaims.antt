@@ -5,20 +5,8 @@ use mathlib.Core.Bool.{Bool, true, false}
 use mathlib.Core.List.{List, [], _∷_, List·Memᴰ, List·Memᴰ·head, List·Memᴰ·tail}
 use mathlib.Core.Logic.{_⊎_, inl, inr}
 use Rattle.model.specs.Records.{Value, Rec}
-use Rattle.model.specs.Member.{
-  Member,
-  idle,
-  begun,
-  answered,
-  passed,
-  failed,
-  judged,
-  outcome,
-  completed,
-  tookOver,
-  dropped,
-  crashedOf,
-}
+use Rattle.model.specs.Member.{Member, idle, begun, answered, passed, failed, judged, outcome, completed, tookOver, dropped}
+use Rattle.model.specs.Member.{crashedOf}
 use Rattle.model.specs.MemberClaims.{Part, Same, ChangesOnly, AtRest, zeroed, MemberAsDescribed}
 
 -- the part stands at place k of the list

@@ -13,16 +13,8 @@ use Rattle.lists.specs.Functions.{inside}
 use Rattle.lists.proofs.Functions.{on, apart, inside-in, inside-low, inside-high}
 use Rattle.model.specs.Kinds.{Kind, concur, isOperation, barred}
 use Rattle.model.specs.Numbers.{beginAnswer, deliverAnswer, crashAnswer}
-use Rattle.model.specs.NumberClaims.{
-  OneTo,
-  Barred,
-  Allowed,
-  NothingToDeliver,
-  BeginNumbers,
-  DeliverNumbers,
-  CrashNumbers,
-  NumbersAsListed,
-}
+use Rattle.model.specs.NumberClaims.{OneTo, Barred, Allowed, NothingToDeliver, BeginNumbers, DeliverNumbers, CrashNumbers}
+use Rattle.model.specs.NumberClaims.{NumbersAsListed}
 
 infixr 4 _and_
 abbrev _and_ : {A B : Type 0} → A → B → A × B

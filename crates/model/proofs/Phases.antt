@@ -1,23 +1,22 @@
 -- How phases move in the reference's run: a call answered 0 moves its own member's phase as document 01 says, and no other's.
 -- Phase by phase, from the reference's definitions. Assumes nothing.
 use Prim.Native.Nat.{ℕ, _≤_}
-use mathlib.Core.Path.{_≡_, refl, sym, ap, _∙_, fun-ext}
+use mathlib.Core.Path.{_≡_, refl, ap, _∙_, fun-ext}
 use mathlib.Core.Bool.{Bool, true, false, cond}
 use mathlib.Core.List.{List, [], _∷_}
 use mathlib.Core.Option.{Option, none}
 use native.Mathlib.Omega.{arith}
 use lib.Dec.{eqb}
-use borrow.Author.Tests.{eqb-true, eqb-false, eq-eqb}
+use borrow.Author.Tests.{eq-eqb}
 use Rattle.lists.specs.Functions.{put}
-use Rattle.lists.proofs.Functions.{on, put-same}
+use Rattle.lists.proofs.Functions.{put-same, split, split-both}
 use Rattle.model.specs.Records.{Value}
 use Rattle.model.specs.Kinds.{Kind}
 use Rattle.model.specs.Runs.{Call, begin, deliver, crash, Seen}
 use Rattle.model.specs.Reference.{RefMember, Reference, refBegun, refMoved, refOvertaken, submittedOn, refSubmit, refReply}
-use Rattle.model.specs.Reference.{refAccepted, refAccept, refAbort, refCommit, refEnded, refEnd, refReturned, refDelivered, refMarked}
-use Rattle.model.specs.Reference.{refAnswer, refDone, refDoneReturns, refAfter, refSeen, refRun}
-use Rattle.model.proofs.Answers.{begin-taken, deliver-taken}
-use Rattle.model.proofs.HistoryLists.{split, split-both}
+use Rattle.model.specs.Reference.{refAccepted, refAccept, refAbort, refEnded, refEnd, refReturned, refMarked, refAnswer, refDone}
+use Rattle.model.specs.Reference.{refDoneReturns, refAfter, refSeen, refRun}
+use Rattle.model.proofs.Steps.{RefTaken, begins, submits, replies, aborts, accepts, ends, crashes, ref-taken}
 
 -- Statements.
 
@@ -83,71 +82,31 @@ returns-none : (m : RefMember) → eqb (m .phase) 4 ≡ false → refReturned m 
 unfolding refReturned
 returns-none m e = rw e
 
-module _ (ref : Reference) (i : ℕ) where
-  pub record To (x : Reference) : Type 0 where
-    pub to : ℕ
-    pub next : Next (ref .members i .phase) (refReturned (ref .members i)) to
-    pub phases : phasesOf (x .members) ≡ put (phasesOf (ref .members)) i to
-
-  submit-to : ref .members i .phase ≡ 1 → To (refSubmit ref i)
-  unfolding refSubmit refMoved
-  submit-to e = record {
-    to = 2;
-    next = submitted e (returns-none (ref .members i) (rw e));
-    phases = phases-put _ i (refMoved (ref .members i) 2)
-        ∙ ap (λ f. put f i 2) (phases-others (ref .members) (ref .members i .slot));
-  }
-
-  reply-to : ref .members i .phase ≡ 2 → To (refReply ref i)
-  unfolding refReply refMoved
-  reply-to e = record { to = 3; next = answered e; phases = phases-put (ref .members) i (refMoved (ref .members i) 3) }
-
-  commit-to : ref .members i .phase ≡ 3 → To (refCommit ref i)
-  unfolding refCommit refAbort refAccept refMoved refAccepted
-  commit-to e =
-      let m = ref .members i in
-      let none = returns-none m (rw e) in
-      split To (m .overtaken)
-      (λ o. record { to = 5; next = judged false e none; phases = phases-put (ref .members) i (refMoved m 5) })
-      (λ o. record { to = 4; next = judged true e none; phases = phases-put (ref .members) i (refAccepted m (ref .values (m .slot))) })
-
-  end-to : 4 ≤ ref .members i .phase → To (refEnd ref i)
-  unfolding refEnd refEnded
-  end-to h = record { to = 0; next = ended h; phases = phases-put (ref .members) i (refEnded (ref .members i)) }
-
-  deliver-to : (ref .members i .phase ≡ 0 → ⊥) → To (refDelivered ref i)
-  unfolding refDelivered
-  deliver-to z =
-      let p = ref .members i .phase in
-      split To (eqb p 1) (λ e. submit-to (eqb-true p 1 e)) (λ a.
-      split To (eqb p 2) (λ e. reply-to (eqb-true p 2 e)) (λ b.
-      split To (eqb p 3) (λ e. commit-to (eqb-true p 3 e)) (λ c.
-      let x : p ≡ 1 → ⊥ = eqb-false p 1 a in
-      let y : p ≡ 2 → ⊥ = eqb-false p 2 b in
-      let w : p ≡ 3 → ⊥ = eqb-false p 3 c in
-      end-to (omega arith))))
+-- Every step of the reference.
+moves-of : {ref next : Reference} {call : Call} → RefTaken ref call next → (s : Seen) → s .phases ≡ phasesOf (next .members)
+    → s .returned ≡ refDoneReturns ref call → Moves (phasesOf (ref .members)) call s
+unfolding refDoneReturns refBegun refSubmit refReply refAbort refAccept refAccepted refEnd refEnded refMarked refMoved
+moves-of {ref} (begins i r t v idle) s p b = record { isIdle = idle; phases = p ∙ phases-put (ref .members) i _ }
+moves-of {ref} (submits i e) s p b =
+    let m = ref .members i in record {
+      to = 2;
+      next = submitted e (b ∙ returns-none m (rw e));
+      phases = p ∙ phases-put _ i (refMoved m 2) ∙ ap (λ f. put f i 2) (phases-others (ref .members) (m .slot));
+    }
+moves-of {ref} (replies i e) s p b = record { to = 3; next = answered e; phases = p ∙ phases-put (ref .members) i _ }
+moves-of {ref} (aborts i e o) s p b =
+    record { to = 5; next = judged false e (b ∙ returns-none (ref .members i) (rw e)); phases = p ∙ phases-put (ref .members) i _ }
+moves-of {ref} (accepts i e o) s p b =
+    record { to = 4; next = judged true e (b ∙ returns-none (ref .members i) (rw e)); phases = p ∙ phases-put (ref .members) i _ }
+moves-of {ref} (ends i l) s p b = record { to = 0; next = ended l; phases = p ∙ phases-put (ref .members) i _ }
+moves-of {ref} (crashes i) s p b = p ∙ phases-put (ref .members) i _ ∙ put-same (phasesOf (ref .members)) i
 
 module _ (kind : Kind) (n : ℕ) where
-  done-moves : (ref : Reference) (call : Call) (s : Seen) → refAnswer kind n ref call ≡ 0
-      → s .phases ≡ phasesOf (refDone ref call .members) → s .returned ≡ refDoneReturns ref call → Moves (phasesOf (ref .members)) call s
-  unfolding refAnswer refDone refDoneReturns refBegun refMarked
-  done-moves ref (begin i r t v) s h p b =
-      let m = ref .members i in record {
-        isIdle = begin-taken kind n (m .phase) (m .crashed) (m .begins r) i r t h .isIdle;
-        phases = p ∙ phases-put (ref .members) i (refBegun m r t v);
-      }
-  done-moves ref (deliver i) s h p b =
-      let m = ref .members i in
-      let x = deliver-to ref i (deliver-taken n (m .phase) (m .crashed) i h .notIdle) in
-      record { to = x .to; next = rw b (x .next); phases = p ∙ x .phases }
-  done-moves ref (crash i) s h p b =
-      p ∙ phases-put (ref .members) i (refMarked (ref .members i)) ∙ put-same (phasesOf (ref .members)) i
-
   pub step-moves : (ref : Reference) (call : Call) → StepMoves (phasesOf (ref .members)) call (refSeen kind n ref call)
   unfolding refSeen refAfter
   step-moves ref call = record {
     taken = λ h. let e : eqb (refAnswer kind n ref call) 0 ≡ true = eq-eqb (refAnswer kind n ref call) 0 h in
-        done-moves ref call (refSeen kind n ref call) h
+        moves-of (ref-taken kind n ref call h) (refSeen kind n ref call)
         (ap (λ t. phasesOf (cond t (refDone ref call) ref .members)) e)
         (ap (λ t. cond t (refDoneReturns ref call) none) e);
     refused = λ e. ap (λ t. phasesOf (cond t (refDone ref call) ref .members)) e;

@@ -11,15 +11,16 @@ use lib.Dec.{eqb}
 use borrow.Author.Tests.{eqb-true, eqb-false, eq-eqb, ne-eqb}
 use Rattle.lists.specs.Functions.{put}
 use Rattle.lists.specs.Every.{Every, Some}
-use Rattle.lists.proofs.Functions.{put-at, put-all, put-both}
+use Rattle.lists.proofs.Functions.{put-at, put-all, put-both, split}
 use Rattle.model.specs.Records.{Value}
 use Rattle.model.specs.Runs.{Call, begin, deliver, crash, Seen}
 use Rattle.model.specs.History.{Op, Submit, Watch, begunOp, submittedOp, submitOf, decidedOp, endedOp, ended}
 use Rattle.model.specs.Positions.{Step, IsBegin, IsDeliver, beganBy, begunCount, Decided}
-use Rattle.model.proofs.HistoryLists.{split, every, every-ended}
+use Rattle.model.proofs.HistoryLists.{every, every-ended}
 use Rattle.model.proofs.Ordinals.{count-next, count-same, begin-counts, deliver-counts}
 use Rattle.model.proofs.PositionsInvariant.{withRunning, nextOp, Moved, stays, begins, submits, replies, judges, ends}
-use Rattle.model.proofs.PositionsInvariant.{RunningPlace, Unended, Places, Found, runs, decided, FoundIn, Stable, PlacedIn, Taken}
+use Rattle.model.proofs.PositionsInvariant.{RunningPlace, Unended, Places, Found, runs, decided, FoundIn, Stable, PlacedIn}
+use Rattle.model.proofs.PositionsInvariant.{Taken}
 
 -- The parts, a step later.
 

@@ -11,86 +11,17 @@ use Rattle.lists.specs.Functions.{put, each}
 use Rattle.lists.proofs.Functions.{on, within-at}
 use Rattle.model.specs.Rows.{larger, below, matrixBelow, comparable, zeroRow, zeroMatrix}
 use Rattle.model.specs.Records.{Value, Rec, read, write, opening, zeroRecord}
-use Rattle.model.specs.Member.{
-  Member,
-  idle,
-  begun,
-  answered,
-  check21,
-  check22,
-  check23,
-  check24,
-  check25,
-  check26,
-  check27,
-  haltNumber,
-  joined,
-  ownRecord,
-  passed,
-  failed,
-  replied,
-  judged,
-  completed,
-  tookOver,
-  dropped,
-  outcome,
-  returnedBy,
-}
+use Rattle.model.specs.Member.{Member, idle, begun, answered, check21, check22, check23, check24, check25, check26, check27}
+use Rattle.model.specs.Member.{haltNumber, joined, ownRecord, passed, failed, replied, judged, completed, tookOver, dropped}
+use Rattle.model.specs.Member.{outcome, returnedBy}
 use Rattle.model.specs.Board.{noEntry, openingEntry, opened, sentRecord}
-use Rattle.model.specs.Published.{
-  idOf,
-  line33,
-  line34,
-  line37,
-  line38,
-  line38others,
-  line38own,
-  line39,
-  line310,
-  line312,
-  line312added,
-  line313,
-  line314,
-  line315,
-  line316,
-  line319,
-  opOf,
-  line321,
-  line323,
-  line326,
-  line327,
-  line327writes,
-  line328,
-  afterOk,
-  afterOkWrites,
-  afterAbort,
-  afterAbortAmended,
-  Client,
-  clientOpened,
-  serverOpened,
-  submit,
-  commit,
-  line54,
-  line55,
-  line58,
-  line59,
-  line512,
-  line512writes,
-  line513,
-  received,
-  sameId,
-}
-use Rattle.model.specs.PublishedClaims.{
-  variables,
-  resting,
-  working,
-  submitOf,
-  newestHeld,
-  storedHeld,
-  MemberAsPublished,
-  OpenedAsPublished,
-  WritesAsPrinted,
-}
+use Rattle.model.specs.Published.{idOf, line33, line34, line37, line38, line38others, line38own, line39, line310, line312}
+use Rattle.model.specs.Published.{line312added, line313, line314, line315, line316, line319, opOf, line321, line323, line326}
+use Rattle.model.specs.Published.{line327, line327writes, line328, afterOk, afterOkWrites, afterAbort, afterAbortAmended, Client}
+use Rattle.model.specs.Published.{clientOpened, serverOpened, submit, commit, line54, line55, line58, line59, line512}
+use Rattle.model.specs.Published.{line512writes, line513, received, sameId}
+use Rattle.model.specs.PublishedClaims.{variables, resting, working, submitOf, newestHeld, storedHeld, MemberAsPublished}
+use Rattle.model.specs.PublishedClaims.{OpenedAsPublished, WritesAsPrinted}
 
 eqb-swap : (a b : ℕ) → eqb a b ≡ eqb b a
 eqb-swap a b = on (eqb a b)

@@ -1,62 +1,27 @@
 -- The host of a board is Algorithm 5's server with document 01's 5.12, on every run from the opening: it is the host half (HostHalf.antt),
 -- and what a run's members send is fit and each commit follows its own submit once. Assumes nothing.
-use Prim.Native.Nat.{ℕ}
+use Prim.Native.Nat.{ℕ, _≤_}
 use mathlib.Core.Path.{_≡_, refl, sym, ap, ap₂, _∙_}
 use mathlib.Core.Bool.{Bool, true, false, not, _&&_, _||_}
 use mathlib.Core.List.{List, [], _∷_, _++_}
 use native.Mathlib.Omega.{arith}
 use lib.Dec.{eqb}
-use borrow.Author.Tests.{eqb-true}
+use borrow.Author.Tests.{eqb-true, ne-eqb}
 use Rattle.lists.proofs.Functions.{on, both, put-at, put-all}
 use Rattle.model.specs.Records.{Value}
 use Rattle.model.specs.Kinds.{Kind}
-use Rattle.model.specs.Member.{
-  Member,
-  idle,
-  begun,
-  answered,
-  replied,
-  passed,
-  failed,
-  haltNumber,
-  judged,
-  outcome,
-  completed,
-  tookOver,
-  dropped,
-  crashedOf,
-}
+use Rattle.model.specs.Member.{Member, idle, begun, answered, replied, passed, failed, haltNumber, judged, outcome, completed}
+use Rattle.model.specs.Member.{tookOver, dropped, crashedOf}
 use Rattle.model.specs.Host.{wins}
-use Rattle.model.specs.Board.{
-  Board,
-  opened,
-  withMember,
-  boardBegun,
-  boardCrashed,
-  boardDelivered,
-  submitTaken,
-  replyTaken,
-  sentRecord,
-  commitTaken,
-  outcomeTaken,
-}
-use Rattle.model.specs.Runs.{Call, begin, deliver, crash, answerOf, done, after}
+use Rattle.model.specs.Board.{Board, opened, withMember, boardBegun, boardCrashed, submitTaken, replyTaken, sentRecord}
+use Rattle.model.specs.Board.{commitTaken, outcomeTaken}
+use Rattle.model.specs.Runs.{Call, answerOf, done, after}
 use Rattle.model.specs.Published.{Id, idOf, sameId, ToServer, submit, commit, FromServer, submitR, commitR}
 use Rattle.model.specs.PublishedClaims.{submitOf, sentBy, gotBy, messagesOf, answersOf, HostAsPublished}
-use Rattle.model.specs.HostClaims.{
-  Half,
-  halfOpened,
-  halfAfter,
-  halfAnswer,
-  halfAnswers,
-  fits,
-  idIn,
-  allFit,
-  eachOnce,
-  noneWaiting,
-  RunSends,
-}
-use Rattle.model.proofs.Answers.{begin-taken, deliver-taken}
+use Rattle.model.specs.HostClaims.{Half, halfOpened, halfAfter, halfAnswer, halfAnswers, fits, idIn, allFit, eachOnce}
+use Rattle.model.specs.HostClaims.{noneWaiting, RunSends}
+use Rattle.model.proofs.Answers.{BeginTaken}
+use Rattle.model.proofs.Steps.{Taken, begins, submits, replies, commits, ends, crashes, taken}
 use Rattle.model.proofs.HostHalf.{same-self, not-same, or-false, and-true, none-both, half-as-published}
 
 -- What member k has sent and not yet committed: between submit and commit its operation, and else nothing. A halted one sends no more.
@@ -85,11 +50,7 @@ record Step (n : ℕ) (b : Board) (waiting : Id → Bool) (next : Board) (sent :
   talk : (messages : List ToServer) (answers : List FromServer) → Talk n next left messages answers
       → Talk n b waiting (sent ++ messages) (got ++ answers)
 
--- a call answered 0
-abbrev StepBy : ℕ → Board → (Id → Bool) → Call → Type 0
-StepBy n b waiting call = let next = done n b call in Step n b waiting next (sentBy b call) (gotBy b next call)
-
-module _ (kind : Kind) (n : ℕ) (b : Board) (waiting : Id → Bool) (h : AllSend n b waiting) (i : ℕ) where
+module _ (n : ℕ) (b : Board) (waiting : Id → Bool) (h : AllSend n b waiting) (i : ℕ) where
   -- one member's state replaced, and nothing sent
   one-member : (m : Member) → Sends n i m waiting → Step n b waiting (withMember b i m) [] []
   unfolding withMember
@@ -99,18 +60,17 @@ module _ (kind : Kind) (n : ℕ) (b : Board) (waiting : Id → Bool) (h : AllSen
     talk = λ messages answers w. record { fit = w .fit; once = w .once; same = w .same };
   }
 
-  begin-step : (r t : ℕ) (v : Value) → answerOf kind n b (begin i r t v) ≡ 0 → StepBy n b waiting (begin i r t v)
-  unfolding answerOf done boardBegun begun sentBy gotBy submitOf fits
-  begin-step r t v e =
-      let m = b .members i in
-      let c = begin-taken kind n (m .phase) (m .crashed) (m .own r) i r t e in
-      one-member (begun m r t v) (record {
+  begin-step : {kind : Kind} (r t : ℕ) (v : Value) → let m = b .members i in
+      BeginTaken kind n (m .phase) (m .crashed) (m .own r) i r t → Step n b waiting (boardBegun b i r t v) [] []
+  unfolding boardBegun begun submitOf fits
+  begin-step r t v c =
+      one-member (begun (b .members i) r t v) (record {
         fit = λ d. rw (c .member, c .slot, c .operation, c .allowed);
         waits = λ d a at. rw (c .isIdle) at (h i .waits (λ z. omega arith) a at);
       })
 
-  crash-step : StepBy n b waiting (crash i)
-  unfolding done boardCrashed crashedOf sentBy gotBy submitOf
+  crash-step : Step n b waiting (boardCrashed b i) [] []
+  unfolding boardCrashed crashedOf submitOf
   crash-step = one-member (crashedOf (b .members i)) (record { fit = h i .fit; waits = h i .waits })
 
   -- phase 1, the submit
@@ -177,40 +137,43 @@ module _ (kind : Kind) (n : ℕ) (b : Board) (waiting : Id → Bool) (h : AllSen
       }
 
   -- phases 4 and 5, the outcome: the member is at rest
-  outcome-step : (won : Bool) → eqb (b .members i .phase) 2 ≡ false → eqb (b .members i .phase) 3 ≡ false
-      → (b .members i .phase ≡ 6 → ⊥) → Step n b waiting (outcomeTaken b i won) [] []
+  outcome-step : (won : Bool) → 4 ≤ b .members i .phase → (b .members i .phase ≡ 6 → ⊥) → Step n b waiting (outcomeTaken b i won) [] []
   unfolding outcomeTaken outcome completed tookOver dropped
-  outcome-step won p q e = one-member (outcome m won) (on won
+  outcome-step won l e = one-member (outcome m won) (on won
       (λ t. rw t (at-rest (completed m) refl))
       (λ t. rw t (at-rest (dropped m) refl)))
     where
       m : Member
       m = b .members i
 
+      not-at : (k : ℕ) → k ≤ 3 → eqb (m .phase) k ≡ false
+      not-at k small = ne-eqb (m .phase) k (λ d. omega arith)
+
       at-rest : (m : Member) → m .phase ≡ 0 → Sends n i m waiting
-      at-rest m z = record { fit = λ d. absurd (d z); waits = λ d a at. rw z (rw (p, q) at (h i .waits e a at)) }
+      at-rest m z = record {
+        fit = λ d. absurd (d z);
+        waits = λ d a at. rw z (rw (not-at 2 (omega arith), not-at 3 (omega arith)) at (h i .waits e a at));
+      }
 
-  deliver-step : answerOf kind n b (deliver i) ≡ 0 → StepBy n b waiting (deliver i)
-  unfolding answerOf done boardDelivered sentBy gotBy
-  deliver-step e =
-      let phase = b .members i .phase in
-      on (eqb phase 1) (λ p. rw p (submit-step (eqb-true phase 1 p)))
-      (λ p. on (eqb phase 2) (λ q. let z : phase ≡ 2 = eqb-true phase 2 q in rw (p, q, ap (λ x. eqb x 3) z) (reply-step z))
-      (λ q. on (eqb phase 3) (λ t. rw (p, q, t) (commit-step (eqb-true phase 3 t)))
-      (λ t. rw (p, q, t) (outcome-step (eqb phase 4) q t (deliver-taken n phase (b .members i .crashed) i e .notHalted)))))
-
-step : (kind : Kind) (n : ℕ) (b : Board) (waiting : Id → Bool) → AllSend n b waiting → (call : Call)
-    → answerOf kind n b call ≡ 0 → StepBy n b waiting call
-step kind n b waiting h (begin i r t v) e = begin-step kind n b waiting h i r t v e
-step kind n b waiting h (deliver i) e = deliver-step kind n b waiting h i e
-step kind n b waiting h (crash i) e = crash-step kind n b waiting h i
+-- Every step.
+step : {kind : Kind} {n : ℕ} {b next : Board} {call : Call} → Taken kind n b call next → (waiting : Id → Bool) → AllSend n b waiting
+    → Step n b waiting next (sentBy b call) (gotBy b next call)
+unfolding sentBy gotBy submitOf sentRecord
+step {n = n} {b = b} (begins i r t v c) waiting h = begin-step n b waiting h i r t v c
+step {n = n} {b = b} (submits i p e) waiting h = rw e (submit-step n b waiting h i e)
+step {n = n} {b = b} (replies i p e) waiting h = rw e (reply-step n b waiting h i e)
+step {n = n} {b = b} (commits i p e) waiting h = rw e (commit-step n b waiting h i e)
+step {n = n} {b = b} (ends i p l six) waiting h =
+    let q = b .members i .phase in
+    rw (ne-eqb q 1 (λ d. omega arith), ne-eqb q 3 (λ d. omega arith)) (outcome-step n b waiting h i (eqb q 4) l six)
+step {n = n} {b = b} (crashes i p) waiting h = crash-step n b waiting h i
 
 run-talk : (kind : Kind) (n : ℕ) (calls : List Call) (b : Board) (waiting : Id → Bool) → AllSend n b waiting
     → Talk n b waiting (messagesOf kind n b calls) (answersOf kind n b calls)
 unfolding messagesOf answersOf after allFit eachOnce halfAnswers
 run-talk kind n [] b waiting h = record { fit = refl; once = refl; same = refl }
 run-talk kind n (call ∷ calls) b waiting h = on (eqb (answerOf kind n b call) 0)
-    (λ p. let t = step kind n b waiting h call (eqb-true (answerOf kind n b call) 0 p) in
+    (λ p. let t = step (taken kind n b call (eqb-true (answerOf kind n b call) 0 p)) waiting h in
     rw p (t .talk _ _ (run-talk kind n calls (done n b call) (t .left) (t .sends))))
     (λ p. rw p (run-talk kind n calls b waiting h))
 

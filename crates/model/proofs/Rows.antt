@@ -1,13 +1,13 @@
 -- Facts about rows and matrices, for every n.
-use Prim.Native.Nat.{ℕ, _+_, _≤_, _<_}
+use Prim.Native.Nat.{ℕ, _≤_}
 use native.Mathlib.Nat.{le-refl, le-trans, le-antisymm}
 use native.Mathlib.Omega.{arith}
-use mathlib.Core.Path.{_≡_, refl, sym, ap, _∙_}
-use mathlib.Core.Bool.{Bool, true, false, cond, _||_}
+use mathlib.Core.Path.{_≡_}
+use mathlib.Core.Bool.{true, false}
 use mathlib.Core.Logic.{_⊎_, inl, inr}
 use lib.Dec.{eqb, leb}
 use borrow.Author.Tests.{le-leb, leb-true, eqb-true, eqb-false}
-use Rattle.lists.specs.Functions.{put, inside, each}
+use Rattle.lists.specs.Functions.{put, inside}
 use Rattle.lists.proofs.Functions.{on, put-at, put-off, each-at, each-all, each-same, inside-in}
 use Rattle.model.specs.Rows.{Row, Matrix, zeroRow, below, matrixBelow, comparable, larger, withCount}
 

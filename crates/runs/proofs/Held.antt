@@ -1,34 +1,37 @@
 -- What a table can hold: a board all of whose counts and words lie at members and slots 1 to n reads back from its words as itself, and
 -- every call leaves such a board. Assumes nothing.
-use Prim.Native.Nat.{ℕ, _+_, _-_, _*_, _≤_, _<_}
+use Prim.Native.Nat.{ℕ, _+_, _-_, _*_, _≤_}
 use native.Mathlib.Omega.{arith}
 use mathlib.Core.Path.{_≡_, refl, sym, ap, _∙_, fun-ext}
-use mathlib.Core.Bool.{Bool, true, false, cond, _&&_}
-use mathlib.Core.Logic.{_⊎_, inl, inr, ⊎-elim}
-use mathlib.Core.List.{List}
+use mathlib.Core.Bool.{Bool, true, false, cond}
+use mathlib.Core.Logic.{⊎-elim}
 use lib.Dec.{eqb}
-use borrow.Author.Tests.{eqb-true, eqb-false, eq-eqb, ne-eqb}
+use borrow.Author.Tests.{ne-eqb}
 use Rattle.lists.specs.Functions.{put, pasted, from, inside, within, numbered}
 use Rattle.lists.specs.Parts.{words, tabulate}
-use Rattle.lists.proofs.Functions.{on, apart, put-at, put-off, put-same, put-all, inside-in, inside-low, inside-high, within-at, within-off, within-same, within-blank, numbered-within, numbered-off, numbered-at, numbered-same}
+use Rattle.lists.proofs.Functions.{on, split, apart, put-off, put-same, put-all, inside-in, inside-low, inside-high, within-at}
+use Rattle.lists.proofs.Functions.{within-off, within-same, within-blank, numbered-within, numbered-off, numbered-at, numbered-same}
 use Rattle.lists.proofs.Parts.{tabulate-at}
-use Rattle.model.specs.Rows.{Row, Matrix, zeroRow, zeroMatrix, larger}
-use Rattle.model.specs.Records.{Value, Rec, write, zeroValue, opening, zeroRecord, matrixWithin, recordWithin}
-use Rattle.model.specs.RecordWords.{recordSize, rowOf, matrixOf, valueOf, recordOf, recordWords}
+use Rattle.model.specs.Rows.{Row, Matrix, zeroRow}
+use Rattle.model.specs.Records.{Value, Rec, write, opening, zeroRecord, matrixWithin, recordWithin}
+use Rattle.model.specs.RecordWords.{recordSize, rowOf, matrixOf, valueOf, recordWords}
 use Rattle.model.specs.Kinds.{Kind, becomesStored}
-use Rattle.model.specs.Member.{Member, idle, begun, answered, haltNumber, joined, ownRecord, passed, failed, replied, judged, completed, dropped, tookOver, outcome, moved, crashedOf}
-use Rattle.model.specs.Host.{Entry, submitted, wins, entryAfter, storedAfter}
-use Rattle.model.specs.Board.{Board, noEntry, openingEntry, opened, withMember, boardBegun, submitTaken, replyTaken, sentRecord, commitTaken, outcomeTaken, boardDelivered, boardCrashed}
-use Rattle.model.specs.Runs.{Call, begin, deliver, crash, answerOf, done}
-use Rattle.model.specs.Table.{pendingAt, lastAt, ownAt, firstAt, secondAt, phaseAt, haltAt, crashedAt, slotAt, operationAt, knownAt, blockSize, memberOf, memberWords, entryOf, storedOf, entryWords, boardOf, tableWords}
+use Rattle.model.specs.Member.{Member, idle, begun, answered, haltNumber, joined, ownRecord, passed, failed, replied, judged, completed}
+use Rattle.model.specs.Member.{dropped, tookOver, outcome, moved, crashedOf}
+use Rattle.model.specs.Host.{Entry, submitted, entryAfter, storedAfter}
+use Rattle.model.specs.Board.{Board, noEntry, openingEntry, opened, withMember, boardBegun, submitTaken, replyTaken, sentRecord}
+use Rattle.model.specs.Board.{commitTaken, outcomeTaken, boardCrashed}
+use Rattle.model.specs.Runs.{Call, begin, deliver, crash}
+use Rattle.model.specs.Table.{pendingAt, lastAt, ownAt, firstAt, secondAt, phaseAt, haltAt, crashedAt, slotAt, operationAt, knownAt}
+use Rattle.model.specs.Table.{blockSize, memberOf, memberWords, entryOf, storedOf, entryWords, boardOf, tableWords}
 use Rattle.model.proofs.Rows.{larger-either}
-use Rattle.model.proofs.Answers.{begin-taken, deliver-taken, crash-taken, by-phase}
-use Rattle.model.proofs.AsReference.{board-phase}
+use Rattle.model.proofs.Steps.{Taken, begins, submits, replies, commits, ends, crashes, by-verdict}
 use Rattle.laws.proofs.Records.{recordOf-words, within-read, within-opening, within-zeroRecord}
 use Rattle.laws.proofs.Blocks.{member-words, member-same, member-zero, entry-read, stored-read}
 use Rattle.laws.proofs.Tables.{table-read}
 use Rattle.laws.proofs.Sound.{SoundBoard}
-use Rattle.laws.proofs.Steps.{headed, begun-by, noted-by, failed-by, judged-by, dropped-by, crashed-by, kept, tookOver-read, tookOver-write}
+use Rattle.laws.proofs.Steps.{headed, begun-by, noted-by, failed-by, judged-by, dropped-by, crashed-by, kept, tookOver-read}
+use Rattle.laws.proofs.Steps.{tookOver-write}
 
 -- Functions that are blank outside 1 to n.
 
@@ -330,22 +333,27 @@ module _ (n : ℕ) (b : Board) (s : SoundBoard n b) (h : HeldBoard n b) (i : ℕ
   slot-inside : inside 5 (b .members i .phase) ≡ true → inside n (b .members i .slot) ≡ true
   slot-inside q = inside-in n (b .members i .slot) (s .members i p .operates q .slotLeast) (s .members i p .slot)
 
+  -- in phase 1 to 5
+  under-way : 1 ≤ b .members i .phase → b .members i .phase ≤ 5 → inside n (b .members i .slot) ≡ true
+  under-way low high = slot-inside (inside-in 5 (b .members i .phase) low high)
+
   submit-held : b .members i .phase ≡ 1 → HeldBoard n (submitTaken b i)
   unfolding submitTaken answered submitted withMember
   submit-held e =
       let m = b .members i in
       let r = m .slot in
-      let q = slot-inside (inside-in 5 (m .phase) (omega arith) (omega arith)) in
-      let one = member-held n b h i (answered m (b .host r .newest) (b .stored r)) p (noted-held 2 (b .host r .newest) (b .stored r) mine (h .newest r) (h .stored r)) in
+      let sent = answered m (b .host r .newest) (b .stored r) in
+      let one = member-held n b h i sent p (noted-held 2 (b .host r .newest) (b .stored r) mine (h .newest r) (h .stored r)) in
       rw (put-same (b .stored) r) at
-      (slot-held n (withMember b i (answered m (b .host r .newest) (b .stored r))) one r (submitted (b .host r) i (m .own r)) (b .stored r) q (h .newest r) (h .stored r))
+      (slot-held n (withMember b i sent) one r (submitted (b .host r) i (m .own r)) (b .stored r) (under-way (omega arith) (omega arith))
+      (h .newest r) (h .stored r))
 
   reply-held : b .members i .phase ≡ 2 → HeldBoard n (replyTaken n b i)
   unfolding replyTaken
   reply-held e =
       let m = b .members i in
       member-held n b h i (replied n i m (m .first) (m .second) 3) p
-      (replied-held i (m .first) (m .second) 3 mine p (slot-inside (inside-in 5 (m .phase) (omega arith) (omega arith))) (first-held mine) (second-held mine))
+      (replied-held i (m .first) (m .second) 3 mine p (under-way (omega arith) (omega arith)) (first-held mine) (second-held mine))
 
   sent-held : recordWithin n (sentRecord i (b .members i)) ≡ sentRecord i (b .members i)
   unfolding recordWithin sentRecord
@@ -364,43 +372,27 @@ module _ (n : ℕ) (b : Board) (s : SoundBoard n b) (h : HeldBoard n b) (i : ℕ
       let m = b .members i in
       let r = m .slot in
       let c = sentRecord i m in
-      let q = slot-inside (inside-in 5 (m .phase) (omega arith) (omega arith)) in
-      let won = wins (b .host r) c in
-      slot-held n (withMember b i (judged m won)) (member-held n b h i (judged m won) p (judged-held won mine)) r
-      (entryAfter (b .host r) c) (storedAfter (b .host r) (b .stored r) c) q
-      (split (λ (e : Entry). recordWithin n (e .newest) ≡ e .newest) (record { submitMember = 0; submitCount = 0; newest = c }) (b .host r) won
-      sent-held (h .newest r))
-      (split (λ (s : Rec). recordWithin n s ≡ s) c (b .stored r) (won && becomesStored c) sent-held (h .stored r))
-    where
-      split : {A : Type 0} (Q : A → Type 0) (x y : A) (t : Bool) → Q x → Q y → Q (cond t x y)
-      split Q x y true a c = a
-      split Q x y false a c = c
+      let judge : (won : Bool) → HeldBoard n (withMember b i (judged m won)) =
+      λ won. member-held n b h i (judged m won) p (judged-held won mine) in
+      by-verdict (HeldBoard n) b i
+      (λ won. rw won (slot-held n (withMember b i (judged m true)) (judge true) r
+      (record { submitMember = 0; submitCount = 0; newest = c }) (cond (becomesStored c) c (b .stored r))
+      (under-way (omega arith) (omega arith)) sent-held
+      (split {A = Rec} (λ s. recordWithin n s ≡ s) (becomesStored c) (λ t. sent-held) (λ t. h .stored r))))
+      (λ lost. judge false)
 
-  deliver-held : (b .members i .phase ≡ 0 → ⊥) → (b .members i .phase ≡ 6 → ⊥) → HeldBoard n (boardDelivered n b i)
-  unfolding outcomeTaken
-  deliver-held z six = by-phase (b .members i .phase) z (let g = s .members i p .phase in omega arith)
-      (λ e. rw (board-phase n b i 1 e) (submit-held e))
-      (λ e. rw (board-phase n b i 2 e) (reply-held e))
-      (λ e. rw (board-phase n b i 3 e) (commit-held e))
-      (λ e. rw (board-phase n b i 4 e) (ended true e (omega arith) (omega arith)))
-      (λ e. rw (board-phase n b i 5 e) (ended false e (omega arith) (omega arith)))
-    where
-      ended : (won : Bool) {q : ℕ} → b .members i .phase ≡ q → 1 ≤ q → q ≤ 5 → HeldBoard n (withMember b i (outcome (b .members i) won))
-      ended won e low high = member-held n b h i (outcome (b .members i) won) p
-          (outcome-held won mine (slot-inside (inside-in 5 (b .members i .phase) (omega arith) (omega arith))))
-
-pub done-held : (kind : Kind) (n : ℕ) (b : Board) (call : Call) → SoundBoard n b → HeldBoard n b → CallHeld call
-    → answerOf kind n b call ≡ 0 → HeldBoard n (done n b call)
-unfolding answerOf done boardBegun boardCrashed
-done-held kind n b (begin i r t v) s h v8 a =
+-- Every step.
+pub taken-held : {kind : Kind} {n : ℕ} {b next : Board} {call : Call} → Taken kind n b call next → SoundBoard n b → HeldBoard n b
+    → CallHeld call → HeldBoard n next
+unfolding boardBegun outcomeTaken boardCrashed
+taken-held {n = n} {b = b} (begins i r t v k) s h eight =
+    member-held n b h i (begun (b .members i) r t v) (k .member) (begun-held r t v (h .members i (k .member)) (k .slot) eight)
+taken-held {n = n} {b = b} (submits i p e) s h _ = submit-held n b s h i p e
+taken-held {n = n} {b = b} (replies i p e) s h _ = reply-held n b s h i p e
+taken-held {n = n} {b = b} (commits i p e) s h _ = commit-held n b s h i p e
+taken-held {n = n} {b = b} (ends i p l six) s h _ =
     let m = b .members i in
-    let k = begin-taken kind n (m .phase) (m .crashed) (m .own r) i r t a in
-    member-held n b h i (begun m r t v) (k .member) (begun-held r t v (h .members i (k .member)) (k .slot) v8)
-done-held kind n b (deliver i) s h _ a =
-    let m = b .members i in
-    let k = deliver-taken n (m .phase) (m .crashed) i a in
-    deliver-held n b s h i (k .member) (k .notIdle) (k .notHalted)
-done-held kind n b (crash i) s h _ a =
-    let m = b .members i in
-    let k = crash-taken n (m .phase) (m .crashed) i a in
-    member-held n b h i (crashedOf m) k (crashed-held (h .members i k))
+    let high = s .members i p .phase in
+    member-held n b h i (outcome m (eqb (m .phase) 4)) p
+    (outcome-held (eqb (m .phase) 4) (h .members i p) (under-way n b s h i p (omega arith) (omega arith)))
+taken-held {n = n} {b = b} (crashes i p) s h _ = member-held n b h i (crashedOf (b .members i)) p (crashed-held (h .members i p))

@@ -10,7 +10,8 @@ use lib.ListN.{length}
 use borrow.Author.Tests.{eq-eqb}
 use Rattle.lists.specs.Functions.{put, inside, within}
 use Rattle.lists.specs.Parts.{words}
-use Rattle.lists.proofs.Functions.{on, both, apart, put-same, put-all, put-both, each-all, inside-in, inside-high, within-off, within-same}
+use Rattle.lists.proofs.Functions.{on, both, apart, put-same, put-all, put-both, each-all, inside-in, inside-high, within-off}
+use Rattle.lists.proofs.Functions.{within-same}
 use Rattle.lists.proofs.Pieces.{pieces-laid}
 use Rattle.model.specs.Records.{Rec, read, write, zeroRecord, recordWithin}
 use Rattle.model.specs.RecordWords.{recordWords}
@@ -18,53 +19,19 @@ use Rattle.model.specs.Kinds.{isSize, isOperation, barred, becomesStored}
 use Rattle.model.specs.Host.{Entry, submitted, wins, entryAfter, storedAfter}
 use Rattle.model.specs.Board.{noEntry}
 use Rattle.lists.specs.Every.{Every}
-use Rattle.model.specs.Table.{
-  entrySize,
-  hostSize,
-  entryOf,
-  storedOf,
-  entryWords,
-  hostOf,
-  storedRecordsOf,
-  hostWords,
-  soundRecord,
-  soundEntry,
-  soundHost,
-  entriesNumber,
-}
+use Rattle.model.specs.Table.{entrySize, hostSize, entryOf, storedOf, entryWords, hostOf, storedRecordsOf, hostWords, soundRecord}
+use Rattle.model.specs.Table.{soundEntry, soundHost, entriesNumber}
 use Rattle.model.specs.Halves.{hostNumber, submitWords, submitNewest, submitStored, commitNumber, commitOutcome, commitWords}
 use Rattle.model.specs.Published.{Id, idOf, ToServer, submit, commit, submitR}
-use Rattle.model.specs.HostClaims.{
-  Half,
-  halfOpened,
-  halfAfter,
-  halfAnswer,
-  halfAnswers,
-  fits,
-  idIn,
-  allFit,
-  eachOnce,
-  noneWaiting,
-  onSlot1,
-  sample,
-}
+use Rattle.model.specs.HostClaims.{Half, halfOpened, halfAfter, halfAnswer, halfAnswers, fits, idIn, allFit, eachOnce, noneWaiting}
+use Rattle.model.specs.HostClaims.{onSlot1, sample}
 use Rattle.model.proofs.HostHalf.{fit-parts, half-as-published, sample-holds}
 use Rattle.laws.proofs.Records.{recordOf-words, within-read, within-zeroRecord}
 use Rattle.laws.proofs.Blocks.{entry-same, stored-same, length-entry, entry-read, stored-read}
 use Rattle.laws.proofs.Tables.{length-host}
 use Rattle.laws.proofs.Sound.{record-sound, SoundSlot, entry-sound}
-use Rattle.runs.specs.HostWords.{
-  entriesOpened,
-  callNumber,
-  callWords,
-  callAnswer,
-  callAnswers,
-  taken,
-  MessageHeld,
-  WordsAsPublished,
-  strayed,
-  SampleInWords,
-}
+use Rattle.runs.specs.HostWords.{entriesOpened, callNumber, callWords, callAnswer, callAnswers, taken, MessageHeld}
+use Rattle.runs.specs.HostWords.{WordsAsPublished, strayed, SampleInWords}
 use Rattle.runs.proofs.Sound.{operation-small, opened-sound}
 use Rattle.runs.proofs.Held.{blank-off, opened-held}
 

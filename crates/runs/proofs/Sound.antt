@@ -1,24 +1,24 @@
 -- Every call keeps the table's check true: whatever sound board it is made on, number 3 does not hold after it.
 -- Assumes nothing.
-use Prim.Native.Nat.{ℕ, _+_, _≤_, _<_}
+use Prim.Native.Nat.{ℕ, _≤_}
 use native.Mathlib.Omega.{arith}
-use mathlib.Core.Path.{_≡_, refl, sym, ap, _∙_}
-use mathlib.Core.Bool.{Bool, true, false, cond, not, _&&_, _||_}
+use mathlib.Core.Path.{_≡_, refl}
+use mathlib.Core.Bool.{Bool, true, false, cond, not, _&&_}
 use lib.Dec.{eqb, leb}
-use borrow.Author.Tests.{eqb-true, eqb-false, eq-eqb, le-leb, leb-true, not-true, not-false}
-use Rattle.lists.specs.Functions.{put, inside, within, each}
-use Rattle.lists.proofs.Functions.{on, both, first, second, apart, put-all, put-both, each-all, each-at, inside-low, inside-high, inside-in}
+use borrow.Author.Tests.{eqb-true, le-leb}
+use Rattle.lists.specs.Functions.{put, inside, within}
+use Rattle.lists.proofs.Functions.{on, split, both, put-same, first, second, put-all, put-both, inside-low, inside-high, inside-in}
 use Rattle.model.specs.Records.{Value, Rec, read, write, opening, zeroRecord}
 use Rattle.model.specs.Kinds.{Kind, isOperation, barred, becomesStored}
-use Rattle.model.specs.Member.{Member, idle, moved, tookOver, begun, answered, haltNumber, ownRecord, passed, failed, replied, judged, completed, dropped, outcome, crashedOf}
-use Rattle.model.specs.Member.{check21, check22, check23, check24, check25, check26, check27}
-use Rattle.model.specs.Host.{Entry, submitted, wins, entryAfter, storedAfter}
-use Rattle.model.specs.Board.{Board, noEntry, openingEntry, opened, withMember, boardBegun, submitTaken, replyTaken, sentRecord, commitTaken, outcomeTaken, boardDelivered, boardCrashed}
-use Rattle.model.specs.Runs.{Call, begin, deliver, crash, answerOf, done}
-use Rattle.model.specs.Table.{soundRecord, soundOperation, soundMember, soundEntry, soundHost, soundBoard}
-use Rattle.laws.proofs.Sound.{SoundRecord, record-parts, record-sound, halts, Operates, SoundMember, Parts, member-parts, member-sound, SoundSlot, entry-parts, entry-sound, SoundBoard, board-parts, board-sound}
-use Rattle.model.proofs.Answers.{BeginTaken, begin-taken, deliver-taken, crash-taken, by-phase}
-use Rattle.model.proofs.AsReference.{board-phase}
+use Rattle.model.specs.Member.{Member, idle, moved, tookOver, begun, answered, haltNumber, ownRecord, passed, failed, replied, judged}
+use Rattle.model.specs.Member.{completed, dropped, outcome, crashedOf, check21, check22, check23, check24, check25, check26, check27}
+use Rattle.model.specs.Host.{Entry, submitted, entryAfter, storedAfter}
+use Rattle.model.specs.Board.{Board, noEntry, openingEntry, opened, withMember, boardBegun, submitTaken, replyTaken, sentRecord}
+use Rattle.model.specs.Board.{commitTaken, outcomeTaken, boardCrashed}
+use Rattle.model.specs.Runs.{Call}
+use Rattle.model.specs.Table.{soundRecord}
+use Rattle.laws.proofs.Sound.{record-sound, halts, Parts, SoundSlot, SoundBoard}
+use Rattle.model.proofs.Steps.{Taken, begins, submits, replies, commits, ends, crashes, by-verdict}
 
 -- The member's steps.
 
@@ -130,20 +130,16 @@ replied-sound n i m newest stored seals s running p two = pick (passed n i m new
     pick a b true x y = x
     pick a b false x y = y
 
--- The board: its members and slots changed.
+-- The board: one member changed, or one member and one slot.
 
--- one member changed
-member-changed : (n : ℕ) (b : Board) (i : ℕ) (m : Member) → SoundBoard n b → Parts n i m
-    → SoundBoard n (withMember b i m)
+member-changed : (n : ℕ) (b : Board) (i : ℕ) (m : Member) → SoundBoard n b → Parts n i m → SoundBoard n (withMember b i m)
 unfolding withMember
 member-changed n b i m s h = record {
   members = put-all (λ k m. inside n k ≡ true → Parts n k m) (b .members) i m (λ p. h) (λ k d. s .members k);
   slots = s .slots;
 }
 
--- one member and one slot changed
-slot-changed : (n : ℕ) (b : Board) (i r : ℕ) (m : Member) (e : Entry) (stored : Rec) → SoundBoard n b → Parts n i m
-    → SoundSlot n e stored
+slot-changed : (n : ℕ) (b : Board) (i r : ℕ) (m : Member) (e : Entry) (stored : Rec) → SoundBoard n b → Parts n i m → SoundSlot n e stored
     → SoundBoard n (record { members = put (b .members) i m; host = put (b .host) r e; stored = put (b .stored) r stored })
 slot-changed n b i r m e stored s h g = record {
   members = put-all (λ k m. inside n k ≡ true → Parts n k m) (b .members) i m (λ p. h) (λ k d. s .members k);
@@ -157,22 +153,20 @@ module _ (n : ℕ) (b : Board) (s : SoundBoard n b) (i : ℕ) (p : inside n i �
   mine = s .members i p
 
   -- an operation under way has a slot of the board
-  slot-in : inside 5 (b .members i .phase) ≡ true → inside n (b .members i .slot) ≡ true
-  slot-in h = inside-in n (b .members i .slot) (mine .operates h .slotLeast) (mine .slot)
+  slot-here : inside 5 (b .members i .phase) ≡ true → let r = b .members i .slot in SoundSlot n (b .host r) (b .stored r)
+  slot-here h = let r = b .members i .slot in s .slots r (inside-in n r (mine .operates h .slotLeast) (mine .slot))
 
   submit-sound : b .members i .phase ≡ 1 → SoundBoard n (submitTaken b i)
   unfolding submitTaken answered submitted
   submit-sound e =
-      let running : inside 5 (b .members i .phase) ≡ true = inside-in 5 (b .members i .phase) (omega arith) (omega arith) in
-      let r = b .members i .slot in
-      let g = s .slots r (slot-in running) in
-      record {
-        members = put-all (λ k m. inside n k ≡ true → Parts n k m) (b .members) i (answered (b .members i) (b .host r .newest) (b .stored r))
-            (λ q. moved-sound n i (b .members i) 2 (b .members i .halt) (b .host r .newest) (b .stored r) mine running (omega arith) (mine .halt) (g .2) (g .1))
-            (λ k d. s .members k);
-        slots = put-all (λ k e. inside n k ≡ true → SoundSlot n e (b .stored k)) (b .host) r (submitted (b .host r) i (b .members i .own r))
-            (λ q. (inside-high n i p, g .1, g .2)) (λ k d. s .slots k);
-      }
+      let m = b .members i in
+      let r = m .slot in
+      let running = inside-in 5 (m .phase) (omega arith) (omega arith) in
+      let g = slot-here running in
+      rw (put-same (b .stored) r) at
+      (slot-changed n b i r (answered m (b .host r .newest) (b .stored r)) (submitted (b .host r) i (m .own r)) (b .stored r) s
+      (moved-sound n i m 2 (m .halt) (b .host r .newest) (b .stored r) mine running (omega arith) (mine .halt) (g .2) (g .1))
+      (inside-high n i p, g .1, g .2))
 
   reply-sound : b .members i .phase ≡ 2 → SoundBoard n (replyTaken n b i)
   unfolding replyTaken
@@ -181,73 +175,44 @@ module _ (n : ℕ) (b : Board) (s : SoundBoard n b) (i : ℕ) (p : inside n i �
       member-changed n b i (replied n i m (m .first) (m .second) 3) s
       (replied-sound n i m (m .first) (m .second) 3 mine (inside-in 5 (m .phase) (omega arith) (omega arith)) p (mine .stored))
 
+  judged-sound : b .members i .phase ≡ 3 → (won : Bool) → Parts n i (judged (b .members i) won)
+  unfolding judged
+  judged-sound e won =
+      let m = b .members i in
+      moved-sound n i m (cond won 4 5) (m .halt) (m .first) (m .second) mine (inside-in 5 (m .phase) (omega arith) (omega arith))
+      (split (λ q. q ≤ 6) won (λ t. omega arith) (λ t. omega arith)) (mine .halt) (mine .newest) (mine .stored)
+
   sent-sound : soundRecord n (sentRecord i (b .members i)) ≡ true
   unfolding sentRecord
   sent-sound = record-sound (record { member = inside-high n i p; slot = mine .slot; operation = mine .operation })
 
   commit-sound : b .members i .phase ≡ 3 → SoundBoard n (commitTaken b i)
-  unfolding commitTaken judged entryAfter storedAfter
+  unfolding commitTaken entryAfter storedAfter
   commit-sound e =
       let m = b .members i in
       let r = m .slot in
       let c = sentRecord i m in
-      let running : inside 5 (m .phase) ≡ true = inside-in 5 (m .phase) (omega arith) (omega arith) in
-      let g = s .slots r (slot-in running) in
-      slot-changed n b i r (judged m (wins (b .host r) c)) (entryAfter (b .host r) c) (storedAfter (b .host r) (b .stored r) c) s
-      (moved-sound n i m (cond (wins (b .host r) c) 4 5) (m .halt) (m .first) (m .second) mine running
-      (phases (wins (b .host r) c)) (mine .halt) (mine .newest) (mine .stored))
-      (entry-kept (wins (b .host r) c) g, stored-kept (wins (b .host r) c && becomesStored c) (g .1), newest-kept (wins (b .host r) c) (g .2))
-    where
-      phases : (t : Bool) → cond t 4 5 ≤ 6
-      phases true = omega arith
-      phases false = omega arith
+      let g = slot-here (inside-in 5 (m .phase) (omega arith) (omega arith)) in
+      by-verdict (SoundBoard n) b i
+      (λ won. rw won (slot-changed n b i r (judged m true) (record { submitMember = 0; submitCount = 0; newest = c })
+      (cond (becomesStored c) c (b .stored r)) s (judged-sound e true)
+      (omega arith, split {A = Rec} (λ x. soundRecord n x ≡ true) (becomesStored c) (λ t. sent-sound) (λ t. g .1), sent-sound)))
+      (λ lost. member-changed n b i (judged m false) s (judged-sound e false))
 
-      entry : Entry
-      entry = b .host (b .members i .slot)
-
-      taken : Entry
-      taken = record { submitMember = 0; submitCount = 0; newest = sentRecord i (b .members i) }
-
-      entry-kept : (t : Bool) → SoundSlot n entry (b .stored (b .members i .slot)) → cond t taken entry .submitMember ≤ n
-      entry-kept true g = omega arith
-      entry-kept false g = g .0
-
-      stored-kept : (t : Bool) → soundRecord n (b .stored (b .members i .slot)) ≡ true
-          → soundRecord n (cond t (sentRecord i (b .members i)) (b .stored (b .members i .slot))) ≡ true
-      stored-kept true g = sent-sound
-      stored-kept false g = g
-
-      newest-kept : (t : Bool) → soundRecord n (entry .newest) ≡ true → soundRecord n (cond t taken entry .newest) ≡ true
-      newest-kept true g = sent-sound
-      newest-kept false g = g
-
-  outcome-kept : (won : Bool) → SoundBoard n (outcomeTaken b i won)
-  unfolding outcomeTaken
-  outcome-kept won = member-changed n b i (outcome (b .members i) won) s (outcome-sound n i (b .members i) won mine)
-
-  deliver-sound : (b .members i .phase ≡ 0 → ⊥) → (b .members i .phase ≡ 6 → ⊥) → SoundBoard n (boardDelivered n b i)
-  deliver-sound z six = by-phase (b .members i .phase) z (let h = mine .phase in omega arith)
-      (λ e. rw (board-phase n b i 1 e) (submit-sound e))
-      (λ e. rw (board-phase n b i 2 e) (reply-sound e))
-      (λ e. rw (board-phase n b i 3 e) (commit-sound e))
-      (λ e. rw (board-phase n b i 4 e) (outcome-kept true))
-      (λ e. rw (board-phase n b i 5 e) (outcome-kept false))
-
--- Every call.
-pub done-sound : (kind : Kind) (n : ℕ) (b : Board) (call : Call) → SoundBoard n b → answerOf kind n b call ≡ 0
-    → SoundBoard n (done n b call)
-unfolding answerOf done boardBegun boardCrashed
-done-sound kind n b (begin i r t v) s h =
+-- Every step.
+pub taken-sound : {kind : Kind} {n : ℕ} {b next : Board} {call : Call} → Taken kind n b call next → SoundBoard n b → SoundBoard n next
+unfolding boardBegun outcomeTaken boardCrashed
+taken-sound {n = n} {b = b} (begins i r t v k) s =
+    member-changed n b i (begun (b .members i) r t v) s
+    (begun-sound n i (b .members i) r t v (s .members i (k .member)) (k .slot) (k .operation) (k .allowed))
+taken-sound {n = n} {b = b} (submits i p e) s = submit-sound n b s i p e
+taken-sound {n = n} {b = b} (replies i p e) s = reply-sound n b s i p e
+taken-sound {n = n} {b = b} (commits i p e) s = commit-sound n b s i p e
+taken-sound {n = n} {b = b} (ends i p l six) s =
     let m = b .members i in
-    let k = begin-taken kind n (m .phase) (m .crashed) (m .own r) i r t h in
-    member-changed n b i (begun m r t v) s (begun-sound n i m r t v (s .members i (k .member)) (k .slot) (k .operation) (k .allowed))
-done-sound kind n b (deliver i) s h =
-    let m = b .members i in
-    let k = deliver-taken n (m .phase) (m .crashed) i h in
-    deliver-sound n b s i (k .member) (k .notIdle) (k .notHalted)
-done-sound kind n b (crash i) s h =
-    let m = b .members i in
-    member-changed n b i (crashedOf m) s (crashed-sound n i m (s .members i (crash-taken n (m .phase) (m .crashed) i h)))
+    member-changed n b i (outcome m (eqb (m .phase) 4)) s (outcome-sound n i m (eqb (m .phase) 4) (s .members i p))
+taken-sound {n = n} {b = b} (crashes i p) s =
+    member-changed n b i (crashedOf (b .members i)) s (crashed-sound n i (b .members i) (s .members i p))
 
 -- The opening.
 pub opened-sound : (n : ℕ) → SoundBoard n (opened n)

@@ -3,29 +3,30 @@
 use Prim.Native.Nat.{ℕ, _+_}
 use native.Mathlib.Omega.{arith}
 use mathlib.Core.Path.{_≡_, refl, sym, ap, _∙_, fun-ext}
-use mathlib.Core.Bool.{Bool, true, false, cond, not}
+use mathlib.Core.Bool.{true, cond}
 use mathlib.Core.List.{List, [], _∷_}
-use mathlib.Core.Option.{Option, none}
+use mathlib.Core.Option.{none}
 use lib.Dec.{eqb}
 use lib.ListN.{length}
-use borrow.Author.Tests.{eq-eqb, eqb-true}
-use Rattle.lists.specs.Functions.{inside, within, from}
+use borrow.Author.Tests.{eq-eqb}
+use Rattle.lists.specs.Functions.{inside, from}
 use Rattle.lists.specs.Parts.{words}
 use Rattle.lists.proofs.Functions.{on, inside-low, inside-high, within-at, within-off, inside-in}
 use Rattle.model.specs.Kinds.{mostMembers, isSize, Kind}
-use Rattle.model.specs.Member.{Member, idle}
+use Rattle.model.specs.Member.{idle}
 use Rattle.model.specs.Board.{Board, opened}
-use Rattle.model.specs.Runs.{Call, begin, deliver, crash, Seen, answerOf, done, doneReturns, after, seenAt, run, boards}
+use Rattle.model.specs.Runs.{Call, answerOf, doneReturns, after, seenAt, run, boards}
 use Rattle.lists.specs.Every.{Every}
 use Rattle.model.specs.Demand3.{Demand3}
-use Rattle.model.specs.Table.{tableSize, blockAt, phaseAt, memberOf, boardOf, tableWords, tableNumber, soundBoard}
+use Rattle.model.specs.Table.{tableSize, blockAt, phaseAt, memberOf, tableWords, tableNumber}
 use Rattle.model.specs.TableCalls.{openNumber, openWords, boardIn, tableAnswer, tableAfter, tableReturns, phaseWords, tableSeen}
 use Rattle.model.specs.TableCalls.{tableRun, tableBoards}
 use Rattle.model.proofs.Demand3.{demand3}
+use Rattle.model.proofs.Steps.{stepped}
 use Rattle.laws.proofs.Tables.{length-table, table-zero, member-at}
 use Rattle.laws.proofs.Sound.{SoundBoard, board-sound}
-use Rattle.runs.proofs.Sound.{done-sound, opened-sound}
-use Rattle.runs.proofs.Held.{HeldBoard, CallHeld, board-read, done-held, opened-held}
+use Rattle.runs.proofs.Sound.{taken-sound, opened-sound}
+use Rattle.runs.proofs.Held.{HeldBoard, CallHeld, board-read, taken-held, opened-held}
 
 module _ (n : ℕ) where
   -- the table of a sound board that it can hold: no number of its own refuses it, and it decodes to that board
@@ -74,14 +75,10 @@ module _ (kind : Kind) (n : ℕ) (size : isSize n ≡ true) where
 
   -- the board after a call is again one that a table can hold
   pub after-sound : (b : Board) → SoundBoard n b → (call : Call) → SoundBoard n (after kind n b call)
-  unfolding after
-  after-sound b s call = on (eqb (answerOf kind n b call) 0)
-      (λ p. rw p (done-sound kind n b call s (eqb-true (answerOf kind n b call) 0 p))) (λ p. rw p s)
+  after-sound b s call = stepped kind n b (SoundBoard n) call s (λ next t. taken-sound t s)
 
   pub after-held : (b : Board) → SoundBoard n b → HeldBoard n b → (call : Call) → CallHeld call → HeldBoard n (after kind n b call)
-  unfolding after
-  after-held b s h call v = on (eqb (answerOf kind n b call) 0)
-      (λ p. rw p (done-held kind n b call s h v (eqb-true (answerOf kind n b call) 0 p))) (λ p. rw p h)
+  after-held b s h call v = stepped kind n b (HeldBoard n) call h (λ next t. taken-held t s h v)
 
   same-seen : (b : Board) → SoundBoard n b → HeldBoard n b → (call : Call) → CallHeld call
       → tableSeen kind (tableWords n b) call ≡ seenAt kind n b call

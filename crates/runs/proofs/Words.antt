@@ -3,26 +3,25 @@
 use Prim.Native.Nat.{ℕ, zero, suc, _+_, _-_}
 use native.Mathlib.Omega.{arith}
 use mathlib.Core.Path.{_≡_, refl, sym, ap, _∙_, fun-ext}
-use mathlib.Core.Bool.{Bool, true, false, false≢true}
+use mathlib.Core.Bool.{true, false, false≢true}
 use mathlib.Core.List.{List, [], _∷_, _++_}
 use lib.Dec.{eqb}
-use lib.ListN.{length}
 use borrow.Author.Tests.{eqb-true, eqb-false}
 use Rattle.lists.specs.Functions.{put, inside, numbered}
-use Rattle.lists.proofs.Functions.{on, inside-low, put-at, put-off}
+use Rattle.lists.proofs.Functions.{on, inside-low, put-off}
 use Rattle.model.specs.Records.{zeroValue}
 use Rattle.model.specs.Kinds.{isSize, concur}
 use Rattle.model.specs.Board.{Board, opened}
-use Rattle.model.specs.Runs.{Call, Seen, begin, deliver, crash, after, run}
+use Rattle.model.specs.Runs.{Call, Seen, deliver, crash, after, run}
 use Rattle.lists.specs.Every.{Every}
 use Rattle.model.specs.RecordWords.{valueOf}
 use Rattle.model.specs.Table.{tableWords}
-use Rattle.model.specs.TableCalls.{openNumber, openWords, boardIn, tableAfter, tableRun}
-use Rattle.runs.specs.Case.{Case, Claim, Question, left, answerTo, found, Holds, tableLeft, foundInWords, HoldsInWords, writes}
-use Rattle.runs.specs.Case.{reads, delivers, wholeWrite, wholeRead}
-use Rattle.runs.specs.Cases.{p1, p6, p7, p9, p11, p12, refusals, seals, unsealed, alone, mended, contended}
-use Rattle.runs.specs.Cases.{crashedAborted, crashedSubmit, crashedOvertakes, readsNotStored, ownReadsNotStored}
-use Rattle.runs.specs.Cases.{plain, crashes, falses, fromOpening}
+use Rattle.model.specs.TableCalls.{openNumber, openWords, boardIn, tableRun}
+use Rattle.runs.specs.Case.{Case, Claim, left, answerTo, found, Holds, tableLeft, foundInWords, HoldsInWords, reads, delivers}
+use Rattle.runs.specs.Case.{wholeWrite, wholeRead}
+use Rattle.runs.specs.Cases.{p1, p6, p7, p9, p11, p12, refusals, seals, unsealed, alone, mended, contended, crashedAborted}
+use Rattle.runs.specs.Cases.{crashedSubmit, crashedOvertakes, readsNotStored, ownReadsNotStored, plain, crashes, falses}
+use Rattle.runs.specs.Cases.{fromOpening}
 use Rattle.runs.proofs.Cases.{every-case}
 use Rattle.laws.proofs.Sound.{SoundBoard}
 use Rattle.runs.proofs.Sound.{opened-sound}

@@ -3,7 +3,7 @@ use mathlib.Core.Path.{refl, sym, _∙_}
 use Rattle.lists.specs.Parts.{words}
 use Rattle.model.specs.Table.{boardOf}
 use Rattle.board.proofs.Answers.{taken-none, none-at, last-returned, last-phase}
-use Rattle.model.proofs.AsReference.{board-phase}
+use Rattle.model.proofs.Steps.{board-phase}
 use Rattle.board.proofs.calls.delivered.Statement.{statement}
 use Rattle.board.proofs.calls.delivered.Tie as tie
 
