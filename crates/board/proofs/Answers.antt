@@ -51,8 +51,8 @@ good l h =
       sound = p3 .0;
     }
 
-pub some-words : (l : List ℕ) → tableNumber l ≡ 0 → 0 < length l
-some-words l h = omega (arith, good l h .table .long, table-positive (words l 0))
+pub some-words : {n : ℕ} {l : List ℕ} → Sound n l → 0 < length l
+some-words {n} h = omega (arith, h .table .long, table-positive n)
 
 pub within : (n i : ℕ) → inside n i ≡ true → Within n i
 within n i h = record { least = inside-low n i h; most = inside-high n i h }
@@ -73,6 +73,10 @@ module _ (n : ℕ) (l : List ℕ) (call : Call) where
   unfolding after
   takes exit e h = record { number = e; left = rw (← e) h }
 
+-- What the public calls promise: the number, the words after the call, and the board that they stand for.
+abbrev pub OnTable : List ℕ → Call → ℕ → List ℕ → Type 0
+OnTable l call k exit = (k ≡ tableAnswer concur l call) × ((exit ≡ tableAfter concur l call) × (boardIn exit ≡ tableBoard concur l call))
+
 -- Any table, refused by a number of its own.
 module _ (l : List ℕ) (call : Call) (k : ℕ) (e : k ≡ tableNumber l) (ne : k ≡ 0 → ⊥) where
   pub own-number : k ≡ tableAnswer concur l call
@@ -90,6 +94,9 @@ module _ (l : List ℕ) (call : Call) (k : ℕ) (e : k ≡ tableNumber l) (ne : 
   pub own-returns : none ≡ tableReturns concur l call
   unfolding tableReturns
   own-returns = stays none _ own-number ne
+
+  pub own-call : OnTable l call k l
+  own-call = (own-number, (own-table, own-board))
 
 -- A table that passed its check, after a call.
 module _ {k : ℕ} (l exit : List ℕ) (call : Call) (e : k ≡ tableNumber l) (z : k ≡ 0) where
@@ -126,6 +133,9 @@ module _ {k : ℕ} (l exit : List ℕ) (call : Call) (e : k ≡ tableNumber l) (
     unfolding tableBoard boardIn after
     call-board = ap (λ k. boardOf k (words exit)) (h .left .table .size) ∙ h .left .board ∙ rw (← same-answer)
 
+    pub call-done : OnTable l call number exit
+    call-done = (call-number, (call-table, call-board))
+
 -- A deliver that nothing refuses has a member whose operation has a slot of the board.
 pub turn : {n i : ℕ} {l : List ℕ} → Sound n l → Within n i
     → deliverAnswer n (boardOf n (words l) .members i .phase) (boardOf n (words l) .members i .crashed) i ≡ 0 → Turn n i l
@@ -139,9 +149,9 @@ turn {n} {i} {l} s w h =
     let o = parts .operates (inside-in 5 (m .phase) (omega arith) (omega arith)) in
     record { table = s .table; member = w; slot = record { least = o .slotLeast; most = parts .slot } }
 
--- A result without a value, and one that was taken.
-pub taken-none : (r : Outcome) → r .number ≡ 0 → returnedIn r ≡ none → valueOf (words (r .value)) ≡ zeroValue → Taken r none
-taken-none r a b c = record { number = a; value = b; blank = λ _. c }
+-- A result without a value.
+abbrev pub Nothing : Outcome → ℕ → Type 0
+Nothing r k = (r .number ≡ k) × ((returnedIn r ≡ none) × (valueOf (words (r .value)) ≡ zeroValue))
 
 -- What a deliver hands back: refused, and taken.
 abbrev pub Handed : (n : ℕ) (l : List ℕ) (call : Call) (r : Outcome) (exit : List ℕ) → Type 0
@@ -151,11 +161,10 @@ Handed n l call r exit =
     × (r .returned ≡ false → valueOf (words (r .value)) ≡ zeroValue))
 
 module _ (n : ℕ) (l : List ℕ) (call : Call) (r : Outcome) where
-  pub hands-none : (k : ℕ) → Table n l → k ≡ answerOf concur n (boardOf n (words l)) call → (k ≡ 0 → ⊥) → r .number ≡ k → returnedIn r ≡ none
-      → valueOf (words (r .value)) ≡ zeroValue → Handed n l call r l
-  hands-none k t e ne a b c = (
-    rw a (refuses n l call k t e ne),
-    (rw (← e, ne-eqb k 0 ne) b, λ _. c),
+  pub hands-none : {k : ℕ} → Table n l → k ≡ answerOf concur n (boardOf n (words l)) call → (k ≡ 0 → ⊥) → Nothing r k → Handed n l call r l
+  hands-none {k} t e ne h = (
+    rw (h .0) (refuses n l call k t e ne),
+    (rw (← e, ne-eqb k 0 ne) (h .1 .0), λ _. h .1 .1),
   )
 
   pub hands : (exit : List ℕ) → 0 ≡ answerOf concur n (boardOf n (words l)) call → Left n (done n (boardOf n (words l)) call) exit
@@ -180,9 +189,9 @@ module _ (n : ℕ) (b : Board) (i : ℕ) where
   no-crash p = rw p
 
   -- in phases 1 to 3 nothing is returned
-  pub none-at : (p : ℕ) → b .members i .phase ≡ p → eqb p 4 ≡ false → boardReturned b i ≡ none
+  pub none-taken : {p : ℕ} (r : Outcome) → b .members i .phase ≡ p → eqb p 4 ≡ false → Nothing r 0 → Taken r (boardReturned b i)
   unfolding boardReturned returnedBy
-  none-at p e f = rw (e, f)
+  none-taken r e f h = record { number = h .0; value = h .1 .0 ∙ rw (e, f); blank = λ _. h .1 .1 }
 
 -- in phases 4 and 5 the outcome is taken
 module _ (n : ℕ) (b : Board) (i p : ℕ) (e : b .members i .phase ≡ p) where

@@ -26,37 +26,35 @@ use Rattle.board.specs.Needs.{Answered}
 use Rattle.board.specs.Interface.{answerBeside, afterBeside, returnedSize, returnedWords, returnedAfter}
 use Rattle.board.proofs.Answers.{call-number, call-table}
 
+-- The number, and the table after the call.
+abbrev pub Beside : ℕ → ℕ → List ℕ → Call → ℕ → List ℕ → Type 0
+Beside long due l call k exit = (k ≡ answerBeside long due l call) × (exit ≡ afterBeside long due l call)
+
 module _ (long due : ℕ) (l : List ℕ) (call : Call) where
   -- refused, the table is as it was
-  pub beside-refused : {k : ℕ} → k ≡ answerBeside long due l call → (k ≡ 0 → ⊥) → l ≡ afterBeside long due l call
+  refused : {k : ℕ} → k ≡ answerBeside long due l call → (k ≡ 0 → ⊥) → Beside long due l call k l
   unfolding afterBeside
-  beside-refused e ne = stays l _ e ne
+  refused e ne = (e, stays l _ e ne)
 
   -- by the table's own number
-  pub beside-own : {k : ℕ} → k ≡ tableNumber l → (k ≡ 0 → ⊥) → k ≡ answerBeside long due l call
+  pub own-beside : {k : ℕ} → k ≡ tableNumber l → (k ≡ 0 → ⊥) → Beside long due l call k l
   unfolding answerBeside
-  beside-own e ne = number-refuses _ e ne
+  own-beside e ne = refused (number-refuses _ e ne) ne
 
   module _ {k : ℕ} (e : k ≡ tableNumber l) (z : k ≡ 0) where
     -- by the slice's length
-    pub beside-long : (long ≡ due → ⊥) → 2 ≡ answerBeside long due l call
+    pub long-beside : (long ≡ due → ⊥) → Beside long due l call 2 l
     unfolding answerBeside
-    beside-long ne = number-passes e z (rw (ne-eqb long due ne))
+    long-beside ne = refused (number-passes e z (rw (ne-eqb long due ne))) (omega arith)
 
-    module _ (fits : long ≡ due) where
+    module _ (fits : long ≡ due) {number : ℕ} {exit : List ℕ} (h : Answered (words l 0) l call number exit) where
       same-call : tableAnswer concur l call ≡ answerBeside long due l call
       unfolding answerBeside tableAnswer
       same-call = rw (eq-eqb long due fits)
 
-      same-table : tableAfter concur l call ≡ afterBeside long due l call
+      pub done-beside : Beside long due l call number exit
       unfolding afterBeside tableAfter
-      same-table = rw same-call
-
-      pub beside-number : {number : ℕ} {exit : List ℕ} → Answered (words l 0) l call number exit → number ≡ answerBeside long due l call
-      beside-number {number} {exit} h = call-number l exit call e z h ∙ same-call
-
-      pub beside-table : {number : ℕ} {exit : List ℕ} → Answered (words l 0) l call number exit → exit ≡ afterBeside long due l call
-      beside-table {number} {exit} h = call-table l exit call e z h ∙ same-table
+      done-beside = (call-number l exit call e z h ∙ same-call, call-table l exit call e z h ∙ rw same-call)
 
 -- What is handed out.
 given : (w : Value) (v : Option Value) → some w ≡ v → (1 ∷ listed valueSize w) ≡ returnedWords v
@@ -110,5 +108,6 @@ pub from-start : (w : ℕ → ℕ) → valueOf (from w 0) ≡ valueOf w
 unfolding from
 from-start w = valueOf-same (λ i. w (0 + i)) w (λ i p. let e : 0 + i ≡ i = omega arith in ap w e)
 
-pub same-value : (n : ℕ) (l : List ℕ) (i r t : ℕ) {v w : Value} {k : ℕ} {exit : List ℕ} → v ≡ w → Answered n l (begin i r t v) k exit → Answered n l (begin i r t w) k exit
-same-value n l i r t e h = rw (← e) h
+pub same-value : {n : ℕ} {l : List ℕ} {i r t : ℕ} {v w : Value} {k : ℕ} {exit : List ℕ} → v ≡ w → Answered n l (begin i r t v) k exit
+    → Answered n l (begin i r t w) k exit
+same-value e h = rw (← e) h

@@ -1,35 +1,40 @@
+-- `deliver` meets its contract: the table's own number refuses, or the table is sound and `deliver_on` answers and hands back.
 use borrow.Author.Needs.{needs}
-use mathlib.Core.Path.{sym, _∙_}
-use Rattle.model.specs.Runs.{deliver}
-use Rattle.board.proofs.Answers.{good, some-words, own-number, own-table, own-board, call-number, call-table, call-board, own-returns, call-returns}
+use mathlib.Core.Path.{_∙_, sym}
+use Rattle.lists.specs.Parts.{words}
+use Rattle.board.specs.Needs.{Sound}
+use Rattle.board.proofs.Answers.{call-done, call-returns, good, own-call, own-returns, some-words}
 use Rattle.board.proofs.deliver.Statement.{statement}
 use Rattle.board.proofs.deliver.Tie as tie
 
+abbrev start : tie.After-table-number → tie.Start
+start c = c .before .before .before
+
+sound : (c : tie.Else1) → let l = start (c .before) .args .table .now in Sound (words l 0) l
+sound c = good _ (sym (c .before .table-number .ensures) ∙ c .if1 .left)
+
 returns : tie.Need-returns
 returns c =
-    let a = (c .before .before .before .before .before .args) in
-    let l = a .table .now in
-    let k = c .before .before .table-number .result in
     let e = c .before .before .table-number .ensures in
     let ne = c .before .if1 .taken in
-    let none = c .nothing .ensures in
-    (none .0 ∙ own-number l (deliver (a .member)) k e ne, (none .1 .0 ∙ own-returns l (deliver (a .member)) k e ne, ((λ _. none .1 .1), (own-table l (deliver (a .member)) k e ne, own-board l (deliver (a .member)) k e ne))))
+    let r = c .nothing .ensures in
+    let own = own-call _ _ _ e ne in
+    (r .0 ∙ own .0, (r .1 .0 ∙ own-returns _ _ _ e ne, ((λ _. r .1 .1), own .1)))
 
 slice-read-n : tie.Need-slice-read-n
-slice-read-n c = some-words (c .before .before .before .before .before .args .table .now) (sym (c .before .before .table-number .ensures) ∙ c .before .if1 .left)
+slice-read-n c = some-words (sound (c .before))
 
 deliver-on-requires : tie.Need-deliver-on-requires
-deliver-on-requires c κs = good (c .before .before .before .before .before .before .args .table .now) (sym (c .before .before .before .table-number .ensures) ∙ c .before .before .if1 .left)
+deliver-on-requires c κs = sound (c .before .before)
 
 returns-2 : tie.Need-returns-2
 returns-2 c =
-    let a = (c .before .before .before .before .before .before .before .before .before .args) in
-    let l = a .table .now in
-    let e = c .before .before .before .before .before .before .table-number .ensures in
-    let z = c .before .before .before .before .before .if1 .left in
-    let exit = c .before .before .deliver-on .last .0 in
-    let done = c .before .before .deliver-on .ensures in
-    (call-number l exit (deliver (a .member)) e z (done .0), (call-returns l exit (deliver (a .member)) e z (done .1 .0), (done .1 .1, (call-table l exit (deliver (a .member)) e z (done .0), call-board l exit (deliver (a .member)) e z (done .0)))))
+    let does = c .before .before in
+    let left = does .before .before .before in
+    let e = left .before .table-number .ensures in
+    let r = does .deliver-on .ensures in
+    let done = call-done _ _ _ e (left .if1 .left) (r .0) in
+    (done .0, (call-returns _ (does .deliver-on .last .0) _ e (left .if1 .left) (r .1 .0), (r .1 .1, done .1)))
 
 pub deliver-spec : {M : Type 1} → statement M
 deliver-spec =

@@ -1,50 +1,82 @@
+-- `begin_on` meets its contract: there is no such member, or the block that is lent refuses, or the operation is begun on it.
 use borrow.Author.Needs.{needs}
-use mathlib.Core.Path.{sym, ap, _∙_}
 use native.Mathlib.Omega.{arith}
+use mathlib.Core.Path.{_∙_, _≡_, ap, sym}
 use Rattle.lists.specs.Parts.{words}
-use Rattle.model.specs.Kinds.{concur}
-use Rattle.model.specs.Runs.{begin, answerOf, done}
-use Rattle.laws.proofs.Tests.{refused, allowed}
-use Rattle.tables.proofs.Lent.{block-lent, whole-block, member-lent, step-left}
-use Rattle.board.proofs.Answers.{within, refuses, takes, no-begin, count-room}
-use Rattle.model.specs.RecordWords.{valueOf}
-use Rattle.model.specs.Numbers.{beginAnswer}
-use Rattle.model.specs.Member.{begun}
 use Rattle.model.specs.Board.{boardBegun}
+use Rattle.model.specs.Kinds.{concur}
+use Rattle.model.specs.Member.{begun}
+use Rattle.model.specs.Numbers.{beginAnswer}
+use Rattle.model.specs.RecordWords.{valueOf}
+use Rattle.model.specs.Runs.{Call, answerOf, begin, done}
+use Rattle.model.specs.Table.{boardOf}
 use Rattle.model.proofs.Answers.{begin-taken}
+use Rattle.laws.proofs.Tests.{allowed, refused}
+use Rattle.checks.specs.Needs.{Within}
+use Rattle.tables.proofs.Lent.{BlockLent, block-lent, member-lent, step-left, whole-block}
+use Rattle.board.proofs.Answers.{count-room, no-begin, refuses, takes, within}
 use Rattle.board.proofs.calls.begin_on.Statement.{statement}
 use Rattle.board.proofs.calls.begin_on.Tie as tie
 
+-- What is known at each place, built on the place before.
+
+abbrev call : tie.Start → Call
+call s = let a = s .args in begin (a .member) (a .slot) (a .operation) (valueOf (words (a .value)))
+
+abbrev start : tie.Else1 → tie.Start
+start c = c .before .before .before
+
+numbered : (c : tie.Else1) → Within (start c .args .n) (start c .args .member)
+numbered c = within _ _ (allowed (c .before .is-numbered .ensures) (c .if1 .left))
+
+abbrev start-sized : tie.After-block-size → tie.Start
+start-sized c = start (c .before .before)
+
+lent : (c : tie.After-block-size) → let a = start-sized c .args in
+    BlockLent (a .n) (a .member) (a .table .now) (c .before .block-at .result) (c .block-size .result)
+lent c = block-lent (start-sized c .pre) (numbered (c .before .before)) (c .before .block-at .ensures) (c .block-size .ensures)
+
+abbrev sized : tie.After-begin-refusal → tie.After-block-size
+sized c = c .before .before .before
+
+answered : (c : tie.After-begin-refusal) → let s = start-sized (sized c) in
+    c .begin-refusal .result ≡ answerOf concur (s .args .n) (boardOf (s .args .n) (words (s .args .table .now))) (call s)
+unfolding answerOf
+answered c =
+    let a = start-sized (sized c) .args in
+    c .begin-refusal .ensures
+    ∙ ap (λ m. beginAnswer concur (a .n) (m .phase) (m .crashed) (m .own (a .slot)) (a .member) (a .slot) (a .operation)) (member-lent (lent (sized c)))
+
+-- The needs.
+
 returns : tie.Need-returns
-returns c = let a = (c .before .before .before .args) in refuses (a .n) (a .table .now) (begin (a .member) (a .slot) (a .operation) (valueOf (words (a .value)))) 4 ((c .before .before .before .pre)) (no-begin (a .n) _ (a .member) _ _ _ (refused (c .before .is-numbered .ensures) (c .if1 .taken))) (λ e. omega arith)
+returns c =
+    let s = c .before .before .before in
+    refuses _ _ (call s) 4 (s .pre) (no-begin _ _ _ _ _ _ (refused (c .before .is-numbered .ensures) (c .if1 .taken))) (λ e. omega arith)
 
 block-at-requires : tie.Need-block-at-requires
-block-at-requires c κs = let w = within _ _ (allowed (c .before .is-numbered .ensures) (c .if1 .left)) in (c .before .before .before .pre .most, (w .least, w .most))
+block-at-requires c κs = let w = numbered c in (start c .pre .most, (w .least, w .most))
 
 begin-refusal-requires : tie.Need-begin-refusal-requires
-begin-refusal-requires c κs = whole-block (block-lent ((c .before .before .before .before .before .before .before .pre)) (within _ _ (allowed (c .before .before .before .before .before .is-numbered .ensures) (c .before .before .before .before .if1 .left))) (c .before .before .before .block-at .ensures) (c .before .before .block-size .ensures))
+begin-refusal-requires c κs = whole-block (lent (c .before .before))
 
 returns-2 : tie.Need-returns-2
-unfolding answerOf
-returns-2 c =
-    let a = (c .before .before .before .before .before .before .before .before .before .args) in
-    refuses (a .n) (a .table .now) (begin (a .member) (a .slot) (a .operation) (valueOf (words (a .value)))) (c .before .begin-refusal .result) ((c .before .before .before .before .before .before .before .before .before .pre))
-    (c .before .begin-refusal .ensures ∙ ap (λ m. beginAnswer concur (a .n) (m .phase) (m .crashed) (m .own (a .slot)) (a .member) (a .slot) (a .operation)) (member-lent (block-lent ((c .before .before .before .before .before .before .before .before .before .pre)) (within _ _ (allowed (c .before .before .before .before .before .before .before .is-numbered .ensures) (c .before .before .before .before .before .before .if1 .left))) (c .before .before .before .before .before .block-at .ensures) (c .before .before .before .before .block-size .ensures))))
-    (c .if2 .taken)
+returns-2 c = let s = start-sized (sized (c .before)) in refuses _ _ (call s) _ (s .pre) (answered (c .before)) (c .if2 .taken)
 
 begin-requires : tie.Need-begin-requires
 begin-requires c κs =
-    let k = begin-taken concur _ _ _ _ _ _ _ (sym (c .before .before .begin-refusal .ensures) ∙ c .before .if2 .left) in
-    (whole-block (block-lent ((c .before .before .before .before .before .before .before .before .before .before .pre)) (within _ _ (allowed (c .before .before .before .before .before .before .before .before .is-numbered .ensures) (c .before .before .before .before .before .before .before .if1 .left))) (c .before .before .before .before .before .before .block-at .ensures) (c .before .before .before .before .before .block-size .ensures)), (within _ _ (k .slot), count-room (k .room)))
+    let asked = c .before .before in
+    let k = begin-taken concur _ _ _ _ _ _ _ (sym (asked .begin-refusal .ensures) ∙ c .before .if2 .left) in
+    (whole-block (lent (sized asked)), (within _ _ (k .slot), count-room (k .room)))
 
 returns-3 : tie.Need-returns-3
-unfolding done boardBegun answerOf
+unfolding done boardBegun
 returns-3 c =
-    let a = (c .before .before .before .before .before .before .before .before .before .before .before .before .before .args) in
-    let h = block-lent ((c .before .before .before .before .before .before .before .before .before .before .before .before .before .pre)) (within _ _ (allowed (c .before .before .before .before .before .before .before .before .before .before .before .is-numbered .ensures) (c .before .before .before .before .before .before .before .before .before .before .if1 .left))) (c .before .before .before .before .before .before .before .before .before .block-at .ensures) (c .before .before .before .before .before .before .before .before .block-size .ensures) in
-    takes (a .n) (a .table .now) (begin (a .member) (a .slot) (a .operation) (valueOf (words (a .value)))) _
-    (sym (c .before .before .before .before .if2 .left) ∙ c .before .before .before .before .before .begin-refusal .ensures ∙ ap (λ m. beginAnswer concur (a .n) (m .phase) (m .crashed) (m .own (a .slot)) (a .member) (a .slot) (a .operation)) (member-lent h))
-    (step-left h (c .before .before .begin .last .0) (c .before .before .begin .kept .0) (λ m. begun m (a .slot) (a .operation) (valueOf (words (a .value)))) (c .before .before .begin .ensures))
+    let begins = c .before .before in
+    let else2 = begins .before .before in
+    let s = start-sized (sized (else2 .before)) in
+    takes _ _ (call s) _ (sym (else2 .if2 .left) ∙ answered (else2 .before))
+    (step-left (lent (sized (else2 .before))) (begins .begin .last .0) (begins .begin .kept .0) (λ m. begun m (s .args .slot) (s .args .operation) (valueOf (words (s .args .value)))) (begins .begin .ensures))
 
 pub begin-on-spec : {M : Type 1} → statement M
 begin-on-spec =

@@ -1,48 +1,89 @@
+-- `deliver_on` meets its contract: there is no such member, or the block that is lent refuses, or the step of the member's phase is taken.
 use borrow.Author.Needs.{needs}
-use mathlib.Core.Path.{sym, ap, _∙_}
 use native.Mathlib.Omega.{arith}
-use Rattle.model.specs.Runs.{deliver, answerOf, done, doneReturns}
-use Rattle.laws.proofs.Tests.{refused, allowed}
-use Rattle.tables.proofs.Lent.{block-lent, whole-block, member-lent}
-use Rattle.board.proofs.Answers.{within, no-deliver, hands, hands-none, turn}
+use mathlib.Core.Path.{_∙_, _≡_, ap, sym}
+use Rattle.lists.specs.Parts.{words}
+use Rattle.model.specs.Kinds.{concur}
 use Rattle.model.specs.Numbers.{deliverAnswer}
+use Rattle.model.specs.Runs.{Call, answerOf, deliver, done, doneReturns}
+use Rattle.model.specs.Table.{boardOf}
+use Rattle.laws.proofs.Tests.{allowed, refused}
+use Rattle.checks.specs.Needs.{Within}
+use Rattle.tables.proofs.Lent.{BlockLent, block-lent, member-lent, whole-block}
+use Rattle.board.proofs.Answers.{hands, hands-none, no-deliver, turn, within}
 use Rattle.board.proofs.calls.deliver_on.Statement.{statement}
 use Rattle.board.proofs.calls.deliver_on.Tie as tie
 
+-- What is known at each place, built on the place before.
+
+abbrev call : tie.Start → Call
+call s = deliver (s .args .member)
+
+abbrev start : tie.Else1 → tie.Start
+start c = c .before .before .before
+
+numbered : (c : tie.Else1) → Within (start c .args .n) (start c .args .member)
+numbered c = within _ _ (allowed (c .before .is-numbered .ensures) (c .if1 .left))
+
+abbrev start-sized : tie.After-block-size → tie.Start
+start-sized c = start (c .before .before)
+
+lent : (c : tie.After-block-size) → let a = start-sized c .args in
+    BlockLent (a .n) (a .member) (a .table .now) (c .before .block-at .result) (c .block-size .result)
+lent c = block-lent (start-sized c .pre .table) (numbered (c .before .before)) (c .before .block-at .ensures) (c .block-size .ensures)
+
+abbrev sized : tie.After-deliver-refusal → tie.After-block-size
+sized c = c .before .before .before
+
+answered : (c : tie.After-deliver-refusal) → let s = start-sized (sized c) in
+    c .deliver-refusal .result ≡ answerOf concur (s .args .n) (boardOf (s .args .n) (words (s .args .table .now))) (call s)
+unfolding answerOf
+answered c =
+    let a = start-sized (sized c) .args in
+    c .deliver-refusal .ensures ∙ ap (λ m. deliverAnswer (a .n) (m .phase) (m .crashed) (a .member)) (member-lent (lent (sized c)))
+
+abbrev passed : tie.After-phase-of → tie.Else2
+passed c = c .before .before .before
+
+-- The needs.
+
 returns : tie.Need-returns
 returns c =
-    let a = (c .before .before .before .before .args) in
-    let e = c .nothing .ensures in
-    hands-none (a .n) (a .table .now) (deliver (a .member)) (c .nothing .result) 4 (c .before .before .before .before .pre .table)
-    (no-deliver (a .n) _ (a .member) (refused (c .before .before .is-numbered .ensures) (c .before .if1 .taken))) (λ e. omega arith) (e .0) (e .1 .0) (e .1 .1)
+    let s = c .before .before .before .before in
+    hands-none _ _ (call s) _ (s .pre .table) (no-deliver _ _ _ (refused (c .before .before .is-numbered .ensures) (c .before .if1 .taken))) (λ e. omega arith)
+    (c .nothing .ensures)
 
 block-at-requires : tie.Need-block-at-requires
-block-at-requires c κs = let w = within _ _ (allowed (c .before .is-numbered .ensures) (c .if1 .left)) in (c .before .before .before .pre .table .most, (w .least, w .most))
+block-at-requires c κs = let w = numbered c in (start c .pre .table .most, (w .least, w .most))
 
 deliver-refusal-requires : tie.Need-deliver-refusal-requires
-deliver-refusal-requires c κs = whole-block (block-lent (c .before .before .before .before .before .before .before .pre .table) (within _ _ (allowed (c .before .before .before .before .before .is-numbered .ensures) (c .before .before .before .before .if1 .left))) (c .before .before .before .block-at .ensures) (c .before .before .block-size .ensures))
+deliver-refusal-requires c κs = whole-block (lent (c .before .before))
 
 returns-2 : tie.Need-returns-2
-unfolding answerOf
 returns-2 c =
-    let a = (c .before .before .before .before .before .before .before .before .before .before .args) in
-    let e = c .nothing2 .ensures in
-    hands-none (a .n) (a .table .now) (deliver (a .member)) (c .nothing2 .result) (c .before .before .deliver-refusal .result) (c .before .before .before .before .before .before .before .before .before .before .pre .table)
-    (c .before .before .deliver-refusal .ensures ∙ ap (λ m. deliverAnswer (a .n) (m .phase) (m .crashed) (a .member)) (member-lent (block-lent (c .before .before .before .before .before .before .before .before .before .before .pre .table) (within _ _ (allowed (c .before .before .before .before .before .before .before .before .is-numbered .ensures) (c .before .before .before .before .before .before .before .if1 .left))) (c .before .before .before .before .before .before .block-at .ensures) (c .before .before .before .before .before .block-size .ensures)))) (c .before .if2 .taken) (e .0) (e .1 .0) (e .1 .1)
+    let asked = c .before .before in
+    let s = start-sized (sized asked) in
+    hands-none _ _ (call s) _ (s .pre .table) (answered asked) (c .before .if2 .taken) (c .nothing2 .ensures)
 
 phase-of-requires : tie.Need-phase-of-requires
-phase-of-requires c κs = whole-block (block-lent (c .before .before .before .before .before .before .before .before .before .before .before .pre .table) (within _ _ (allowed (c .before .before .before .before .before .before .before .before .before .is-numbered .ensures) (c .before .before .before .before .before .before .before .before .if1 .left))) (c .before .before .before .before .before .before .before .block-at .ensures) (c .before .before .before .before .before .before .block-size .ensures))
+phase-of-requires c κs = whole-block (lent (sized (c .before .before .before)))
 
 delivered-requires : tie.Need-delivered-requires
+unfolding answerOf
 delivered-requires c κs =
-    let a = (c .before .before .before .before .before .before .before .before .before .before .before .before .before .args) in
-    (turn ((c .before .before .before .before .before .before .before .before .before .before .before .before .before .pre)) (within _ _ (allowed (c .before .before .before .before .before .before .before .before .before .before .before .is-numbered .ensures) (c .before .before .before .before .before .before .before .before .before .before .if1 .left))) (sym (c .before .before .before .before .before .deliver-refusal .ensures ∙ ap (λ m. deliverAnswer (a .n) (m .phase) (m .crashed) (a .member)) (member-lent (block-lent (c .before .before .before .before .before .before .before .before .before .before .before .before .before .pre .table) (within _ _ (allowed (c .before .before .before .before .before .before .before .before .before .before .before .is-numbered .ensures) (c .before .before .before .before .before .before .before .before .before .before .if1 .left))) (c .before .before .before .before .before .before .before .before .before .block-at .ensures) (c .before .before .before .before .before .before .before .before .block-size .ensures)))) ∙ c .before .before .before .before .if2 .left), c .before .phase-of .ensures ∙ ap (λ m. m .phase) (member-lent (block-lent (c .before .before .before .before .before .before .before .before .before .before .before .before .before .pre .table) (within _ _ (allowed (c .before .before .before .before .before .before .before .before .before .before .before .is-numbered .ensures) (c .before .before .before .before .before .before .before .before .before .before .if1 .left))) (c .before .before .before .before .before .before .before .before .before .block-at .ensures) (c .before .before .before .before .before .before .before .before .block-size .ensures))))
+    let left = passed (c .before) in
+    let h = lent (sized (left .before)) in (
+      turn (start-sized (sized (left .before)) .pre) (h .member) (sym (answered (left .before)) ∙ left .if2 .left),
+      c .before .phase-of .ensures ∙ ap (λ m. m .phase) (member-lent h),
+    )
 
 returns-3 : tie.Need-returns-3
-unfolding answerOf done doneReturns
+unfolding done doneReturns
 returns-3 c =
-    let a = (c .before .before .before .before .before .before .before .before .before .before .before .before .before .before .before .before .args) in
-    hands (a .n) (a .table .now) (deliver (a .member)) (c .before .before .delivered .result) _ (sym (c .before .before .before .before .before .before .before .if2 .left) ∙ (c .before .before .before .before .before .before .before .before .deliver-refusal .ensures ∙ ap (λ m. deliverAnswer (a .n) (m .phase) (m .crashed) (a .member)) (member-lent (block-lent (c .before .before .before .before .before .before .before .before .before .before .before .before .before .before .before .before .pre .table) (within _ _ (allowed (c .before .before .before .before .before .before .before .before .before .before .before .before .before .before .is-numbered .ensures) (c .before .before .before .before .before .before .before .before .before .before .before .before .before .if1 .left))) (c .before .before .before .before .before .before .before .before .before .before .before .before .block-at .ensures) (c .before .before .before .before .before .before .before .before .before .before .before .block-size .ensures))))) (c .before .before .delivered .ensures .1) (c .before .before .delivered .ensures .0)
+    let does = c .before .before in
+    let left = passed (does .before .before) in
+    hands _ _ (call (start-sized (sized (left .before)))) _ _ (sym (left .if2 .left) ∙ answered (left .before))
+    (does .delivered .ensures .1) (does .delivered .ensures .0)
 
 pub deliver-on-spec : {M : Type 1} → statement M
 deliver-on-spec =

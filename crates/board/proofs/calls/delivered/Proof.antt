@@ -1,58 +1,71 @@
+-- `delivered` meets its contract: the phase is 1, 2 or 3, whose step hands back nothing, or else the outcome is taken.
 use borrow.Author.Needs.{needs}
-use mathlib.Core.Path.{refl, sym, _∙_}
+use mathlib.Core.Path.{_∙_, refl, sym}
 use Rattle.lists.specs.Parts.{words}
+use Rattle.model.specs.Board.{Board}
+use Rattle.model.specs.Kinds.{concur}
 use Rattle.model.specs.Table.{boardOf}
-use Rattle.board.proofs.Answers.{taken-none, none-at, last-returned, last-phase}
 use Rattle.model.proofs.Steps.{board-phase}
+use Rattle.board.proofs.Answers.{last-phase, last-returned, none-taken}
 use Rattle.board.proofs.calls.delivered.Statement.{statement}
 use Rattle.board.proofs.calls.delivered.Tie as tie
+
+abbrev start : tie.Else1 → tie.Start
+start c = c .before .before
+
+abbrev board : tie.Start → Board
+board s = boardOf (s .args .n) (words (s .args .table .now))
 
 submit-taken-requires : tie.Need-submit-taken-requires
 submit-taken-requires c κs = c .before .before .before .pre .0
 
 returns : tie.Need-returns
 returns c =
-    let a = (c .before .before .before .before .before .before .before .args) in
-    let e = c .nothing .ensures in
-    let p = sym (c .before .before .before .before .before .before .before .pre .1) ∙ c .before .before .before .before .before .if1 .taken in (
-      rw (none-at (a .n) (boardOf (a .n) (words (a .table .now))) (a .member) 1 p refl) (taken-none (c .nothing .result) (e .0) (e .1 .0) (e .1 .1)),
-      rw (board-phase (a .n) (boardOf (a .n) (words (a .table .now))) (a .member) 1 p) (c .before .before .before .submit-taken .ensures),
+    let does = c .before .before .before in
+    let s = does .before .before .before .before in
+    let e = sym (s .pre .1) ∙ does .before .before .if1 .taken in (
+      none-taken (s .args .n) (board s) _ _ e refl (c .nothing .ensures),
+      rw (board-phase _ (board s) _ 1 e) (does .submit-taken .ensures),
     )
 
 reply-taken-requires : tie.Need-reply-taken-requires
-reply-taken-requires c κs = c .before .before .before .before .pre .0
+reply-taken-requires c κs = start (c .before .before) .pre .0
 
 returns-2 : tie.Need-returns-2
 returns-2 c =
-    let a = (c .before .before .before .before .before .before .before .before .args) in
-    let e = c .nothing2 .ensures in
-    let p = sym (c .before .before .before .before .before .before .before .before .pre .1) ∙ c .before .before .before .before .before .if2 .taken in (
-      rw (none-at (a .n) (boardOf (a .n) (words (a .table .now))) (a .member) 2 p refl) (taken-none (c .nothing2 .result) (e .0) (e .1 .0) (e .1 .1)),
-      rw (board-phase (a .n) (boardOf (a .n) (words (a .table .now))) (a .member) 2 p) (c .before .before .before .reply-taken .ensures),
+    let does = c .before .before .before in
+    let at = does .before .before in
+    let s = start (at .before) in
+    let e = sym (s .pre .1) ∙ at .if2 .taken in (
+      none-taken (s .args .n) (board s) _ _ e refl (c .nothing2 .ensures),
+      rw (board-phase _ (board s) _ 2 e) (does .reply-taken .ensures),
     )
 
 commit-taken-requires : tie.Need-commit-taken-requires
-commit-taken-requires c κs = c .before .before .before .before .before .pre .0
+commit-taken-requires c κs = start (c .before .before .before) .pre .0
 
 returns-3 : tie.Need-returns-3
 returns-3 c =
-    let a = (c .before .before .before .before .before .before .before .before .before .args) in
-    let e = c .nothing3 .ensures in
-    let p = sym (c .before .before .before .before .before .before .before .before .before .pre .1) ∙ c .before .before .before .before .before .if3 .taken in (
-      rw (none-at (a .n) (boardOf (a .n) (words (a .table .now))) (a .member) 3 p refl) (taken-none (c .nothing3 .result) (e .0) (e .1 .0) (e .1 .1)),
-      rw (board-phase (a .n) (boardOf (a .n) (words (a .table .now))) (a .member) 3 p) (c .before .before .before .commit-taken .ensures),
+    let does = c .before .before .before in
+    let at = does .before .before in
+    let s = start (at .before .before) in
+    let e = sym (s .pre .1) ∙ at .if3 .taken in (
+      none-taken (s .args .n) (board s) _ _ e refl (c .nothing3 .ensures),
+      rw (board-phase _ (board s) _ 3 e) (does .commit-taken .ensures),
     )
 
 outcome-taken-requires : tie.Need-outcome-taken-requires
-outcome-taken-requires c κs = c .before .before .before .before .before .pre .0
+outcome-taken-requires c κs = start (c .before .before .before) .pre .0
 
 returns-4 : tie.Need-returns-4
 returns-4 c =
-    let a = (c .before .before .before .before .before .before .before .before .args) in
-    let b = boardOf (a .n) (words (a .table .now)) in
-    let p = sym (c .before .before .before .before .before .before .before .before .pre .1) in (
-      rw (← last-returned (a .n) b (a .member) _ p) (c .before .before .outcome-taken .ensures .0),
-      rw (← last-phase (a .n) b (a .member) _ p (c .before .before .before .before .before .before .if1 .left) (c .before .before .before .before .before .if2 .left) (c .before .before .before .before .if3 .left)) (c .before .before .outcome-taken .ensures .1),
+    let does = c .before .before in
+    let at = does .before .before in
+    let s = start (at .before .before) in
+    let e = sym (s .pre .1) in (
+      rw (← last-returned (s .args .n) (board s) (s .args .member) _ e) (does .outcome-taken .ensures .0),
+      rw (← last-phase (s .args .n) (board s) (s .args .member) _ e (at .before .before .if1 .left) (at .before .if2 .left) (at .if3 .left))
+          (does .outcome-taken .ensures .1),
     )
 
 pub delivered-spec : {M : Type 1} → statement M

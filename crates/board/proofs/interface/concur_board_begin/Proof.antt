@@ -1,49 +1,44 @@
+-- `concur_board_begin` meets its contract: the table's own number, the value's length, or `begin_on` with the value that is read.
 use borrow.Author.Needs.{needs}
-use mathlib.Core.Path.{sym, _∙_}
 use native.Mathlib.Omega.{arith}
+use mathlib.Core.Path.{_∙_, sym}
 use Rattle.lists.specs.Parts.{words}
-use Rattle.model.specs.Runs.{begin}
+use Rattle.board.specs.Needs.{Sound}
 use Rattle.board.proofs.Answers.{good, some-words}
-use lib.ListN.{length}
-use Rattle.model.specs.RecordWords.{valueOf}
-use Rattle.board.proofs.Beside.{beside-refused, beside-own, beside-long, beside-number, beside-table, same-value, from-start}
+use Rattle.board.proofs.Beside.{done-beside, from-start, long-beside, own-beside, same-value}
 use Rattle.board.proofs.interface.concur_board_begin.Statement.{statement}
 use Rattle.board.proofs.interface.concur_board_begin.Tie as tie
 
+abbrev start : tie.After-table-number → tie.Start
+start c = c .before .before .before .before
+
+sound : (c : tie.Else1) → let l = start (c .before) .args .table .now in Sound (words l 0) l
+sound c = good _ (sym (c .before .table-number .ensures) ∙ c .if1 .left)
+
+abbrev fit : tie.After-begin-on-arg → tie.Else2
+fit c = c .before .before
+
 returns : tie.Need-returns
-returns c =
-    let a = (c .before .before .before .before .before .args) in
-    let l = a .table .now in
-    let long = length (a .value .now) in
-    let k = beside-own long 8 l (begin (a .member) (a .slot) (a .operation) (valueOf (words (a .value .now)))) (c .before .table-number .ensures) (c .if1 .taken) in
-    (k, beside-refused long 8 l (begin (a .member) (a .slot) (a .operation) (valueOf (words (a .value .now)))) k (c .if1 .taken))
+returns c = own-beside _ _ _ _ (c .before .table-number .ensures) (c .if1 .taken)
 
 returns-2 : tie.Need-returns-2
-returns-2 c =
-    let a = (c .before .before .before .before .before .before .args) in
-    let l = a .table .now in
-    let long = length (a .value .now) in
-    let k = beside-long long 8 l (begin (a .member) (a .slot) (a .operation) (valueOf (words (a .value .now)))) (c .before .before .table-number .ensures) (c .before .if1 .left) (c .if2 .taken) in
-    (k, beside-refused long 8 l (begin (a .member) (a .slot) (a .operation) (valueOf (words (a .value .now)))) k (λ e. omega arith))
+returns-2 c = long-beside _ _ _ _ (c .before .before .table-number .ensures) (c .before .if1 .left) (c .if2 .taken)
 
 slice-read-n : tie.Need-slice-read-n
-slice-read-n c = some-words (c .before .before .before .before .before .before .before .args .table .now) (sym (c .before .before .before .table-number .ensures) ∙ c .before .before .if1 .left)
+slice-read-n c = some-words (sound (c .before .before))
 
 load-value-requires : tie.Need-load-value-requires
-load-value-requires c κs = omega (arith, c .before .before .if2 .left)
+load-value-requires c κs = omega (arith, fit c .if2 .left)
 
 begin-on-requires : tie.Need-begin-on-requires
-begin-on-requires c κs = good (c .before .before .before .before .before .before .before .before .before .args .table .now) (sym (c .before .before .before .before .before .table-number .ensures) ∙ c .before .before .before .before .if1 .left) .table
+begin-on-requires c κs = sound (fit (c .before) .before) .table
 
 returns-3 : tie.Need-returns-3
 returns-3 c =
-    let a = (c .before .before .before .before .before .before .before .before .before .before .before .before .args) in
-    let l = a .table .now in
-    let long = length (a .value .now) in
-    let done = same-value _ l (a .member) (a .slot) (a .operation) (c .before .before .before .load-value .ensures ∙ from-start (words (a .value .now))) (c .before .before .begin-on .ensures) in (
-      beside-number long 8 l (begin (a .member) (a .slot) (a .operation) (valueOf (words (a .value .now)))) (c .before .before .before .before .before .before .before .before .table-number .ensures) (c .before .before .before .before .before .before .before .if1 .left) (c .before .before .before .before .before .before .if2 .left) done,
-      beside-table long 8 l (begin (a .member) (a .slot) (a .operation) (valueOf (words (a .value .now)))) (c .before .before .before .before .before .before .before .before .table-number .ensures) (c .before .before .before .before .before .before .before .if1 .left) (c .before .before .before .before .before .before .if2 .left) done,
-    )
+    let does = c .before .before in
+    let left = fit (does .before .before) in
+    let value = does .before .load-value .ensures ∙ from-start (words (start (left .before .before) .args .value .now)) in
+    done-beside _ _ _ _ (left .before .before .table-number .ensures) (left .before .if1 .left) (left .if2 .left) (same-value value (does .begin-on .ensures))
 
 pub concur-board-begin-spec : {M : Type 1} → statement M
 concur-board-begin-spec =

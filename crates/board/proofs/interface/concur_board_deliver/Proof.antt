@@ -1,61 +1,67 @@
+-- `concur_board_deliver` meets its contract: the table's own number, the slice's length, or `deliver_on`, whose refusal leaves the slice and
+-- whose value is else written to it.
 use borrow.Author.Needs.{needs}
-use mathlib.Core.Path.{sym, _∙_}
 use native.Mathlib.Omega.{arith}
-use Rattle.model.specs.Runs.{deliver}
-use Rattle.board.proofs.Answers.{good, some-words, call-returns}
+use mathlib.Core.Path.{_∙_, sym}
 use lib.ListN.{length}
-use Rattle.board.proofs.Beside.{beside-refused, beside-own, beside-long, beside-number, beside-table, handed, returned-kept, returned-written}
+use Rattle.lists.specs.Parts.{words}
+use Rattle.model.specs.Runs.{deliver}
+use Rattle.board.specs.Needs.{Sound}
+use Rattle.board.proofs.Answers.{call-returns, good, some-words}
+use Rattle.board.proofs.Beside.{Beside, done-beside, handed, long-beside, own-beside, returned-kept, returned-written}
 use Rattle.board.proofs.interface.concur_board_deliver.Statement.{statement}
 use Rattle.board.proofs.interface.concur_board_deliver.Tie as tie
 
+abbrev start : tie.After-table-number → tie.Start
+start c = c .before .before .before .before
+
+sound : (c : tie.Else1) → let l = start (c .before) .args .table .now in Sound (words l 0) l
+sound c = good _ (sym (c .before .table-number .ensures) ∙ c .if1 .left)
+
+abbrev fit : tie.After-deliver-on → tie.Else2
+fit c = c .before .before .before
+
+done : (c : tie.After-deliver-on) → let a = start (fit c .before .before) .args in
+    Beside (length (a .returned .now)) 9 (a .table .now) (deliver (a .member)) (c .deliver-on .result .number) (c .deliver-on .last .0)
+done c =
+    let left = fit c in
+    done-beside _ _ _ _ (left .before .before .table-number .ensures) (left .before .if1 .left) (left .if2 .left) (c .deliver-on .ensures .0)
+
 returns : tie.Need-returns
 returns c =
-    let a = (c .before .before .before .before .before .args) in
-    let l = a .table .now in
-    let long = length (a .returned .now) in
-    let k = beside-own long 9 l (deliver (a .member)) (c .before .table-number .ensures) (c .if1 .taken) in
-    (k, (beside-refused long 9 l (deliver (a .member)) k (c .if1 .taken), returned-kept (a .returned .now) l (deliver (a .member)) k (c .if1 .taken)))
+    let b = own-beside _ _ _ _ (c .before .table-number .ensures) (c .if1 .taken) in
+    (b .0, (b .1, returned-kept _ _ _ (b .0) (c .if1 .taken)))
 
 returns-2 : tie.Need-returns-2
 returns-2 c =
-    let a = (c .before .before .before .before .before .before .args) in
-    let l = a .table .now in
-    let long = length (a .returned .now) in
-    let k = beside-long long 9 l (deliver (a .member)) (c .before .before .table-number .ensures) (c .before .if1 .left) (c .if2 .taken) in
-    (k, (beside-refused long 9 l (deliver (a .member)) k (λ e. omega arith), returned-kept (a .returned .now) l (deliver (a .member)) k (λ e. omega arith)))
+    let b = long-beside _ _ _ _ (c .before .before .table-number .ensures) (c .before .if1 .left) (c .if2 .taken) in
+    (b .0, (b .1, returned-kept _ _ _ (b .0) (λ e. omega arith)))
 
 slice-read-n : tie.Need-slice-read-n
-slice-read-n c = some-words (c .before .before .before .before .before .before .before .args .table .now) (sym (c .before .before .before .table-number .ensures) ∙ c .before .before .if1 .left)
+slice-read-n c = some-words (sound (c .before .before))
 
 deliver-on-requires : tie.Need-deliver-on-requires
-deliver-on-requires c κs = good (c .before .before .before .before .before .before .before .before .args .table .now) (sym (c .before .before .before .before .table-number .ensures) ∙ c .before .before .before .if1 .left)
+deliver-on-requires c κs = sound (c .before .before .before)
 
 returns-3 : tie.Need-returns-3
-returns-3 c =
-    let a = (c .before .before .before .before .before .before .before .before .before .before .before .before .args) in
-    let l = a .table .now in
-    let long = length (a .returned .now) in
-    let done = c .before .before .before .deliver-on .ensures .0 in
-    let k = beside-number long 9 l (deliver (a .member)) (c .before .before .before .before .before .before .before .before .table-number .ensures) (c .before .before .before .before .before .before .before .if1 .left) (c .before .before .before .before .before .before .if2 .left) done in
-    (k, (beside-table long 9 l (deliver (a .member)) (c .before .before .before .before .before .before .before .before .table-number .ensures) (c .before .before .before .before .before .before .before .if1 .left) (c .before .before .before .before .before .before .if2 .left) done, returned-kept (a .returned .now) l (deliver (a .member)) k (c .if3 .taken)))
+returns-3 c = let b = done (c .before .before .before) in (b .0, (b .1, returned-kept _ _ _ (b .0) (c .if3 .taken)))
+
+abbrev delivers : tie.Else3 → tie.After-deliver-on
+delivers c = c .before .before .before
 
 hand-out-requires : tie.Need-hand-out-requires
-hand-out-requires c κs = c .before .before .before .before .before .before .before .before .if2 .left
+hand-out-requires c κs = fit (delivers (c .before .before)) .if2 .left
 
 returns-4 : tie.Need-returns-4
 returns-4 c =
-    let a = (c .before .before .before .before .before .before .before .before .before .before .before .before .before .before .before .before .before .args) in
-    let l = a .table .now in
-    let long = length (a .returned .now) in
-    let post = c .before .before .before .before .before .before .before .before .deliver-on .ensures in
-    let k = sym (c .before .before .before .before .before .if3 .left) ∙ beside-number long 9 l (deliver (a .member)) (c .before .before .before .before .before .before .before .before .before .before .before .before .before .table-number .ensures) (c .before .before .before .before .before .before .before .before .before .before .before .before .if1 .left) (c .before .before .before .before .before .before .before .before .before .before .before .if2 .left) (post .0) in (
-      k,
-      (
-        beside-table long 9 l (deliver (a .member)) (c .before .before .before .before .before .before .before .before .before .before .before .before .before .table-number .ensures) (c .before .before .before .before .before .before .before .before .before .before .before .before .if1 .left) (c .before .before .before .before .before .before .before .before .before .before .before .if2 .left) (post .0),
-        returned-written (a .returned .now) l (deliver (a .member)) k
-            (c .before .before .hand-out .ensures ∙ handed (c .before .before .before .before .before .before .before .before .deliver-on .result) _ (call-returns l (c .before .before .before .before .before .before .before .before .deliver-on .last .0) (deliver (a .member)) (c .before .before .before .before .before .before .before .before .before .before .before .before .before .table-number .ensures) (c .before .before .before .before .before .before .before .before .before .before .before .before .if1 .left) (post .1 .0)) (post .1 .1)),
-      ),
-    )
+    let out = c .before .before in
+    let taken = out .before .before .before in
+    let does = delivers taken in
+    let left = fit does in
+    let r = does .deliver-on .ensures .1 in
+    let k = sym (taken .if3 .left) ∙ done does .0 in
+    let value = call-returns _ (does .deliver-on .last .0) _ (left .before .before .table-number .ensures) (left .before .if1 .left) (r .0) in
+    (k, (done does .1, returned-written _ _ _ k (out .hand-out .ensures ∙ handed (does .deliver-on .result) _ value (r .1))))
 
 pub concur-board-deliver-spec : {M : Type 1} → statement M
 concur-board-deliver-spec =

@@ -1,35 +1,49 @@
+-- `commit_taken` meets its contract: the member's block and the host entries are lent in turn, and `commit-left` joins what they leave.
 use borrow.Author.Needs.{needs}
-use mathlib.Core.Path.{refl, ap, _∙_}
-use Rattle.tables.proofs.Lent.{block-lent, host-lent, running-block, member-lent, slot-lent, host-table, whole-block}
-use Rattle.records.specs.Meaning.{recordIn}
+use mathlib.Core.Path.{ap, refl}
 use Rattle.model.specs.Board.{sentRecord}
-use Rattle.board.proofs.Between.{commit-left}
+use Rattle.records.specs.Meaning.{recordIn}
+use Rattle.tables.proofs.Lent.{whole-block}
+use Rattle.board.proofs.Between.{BothLent, both-lent, both-running, commit-left, lent-again, slot-of}
 use Rattle.board.proofs.phases.commit_taken.Statement.{statement}
 use Rattle.board.proofs.phases.commit_taken.Tie as tie
 
+abbrev start : tie.After-block-size → tie.Start
+start c = c .before .before .before
+
+both : (c : tie.After-host-size) → let b = c .before .before in let a = start b .args in
+    BothLent (a .n) (a .member) (a .table .now) (b .before .block-at .result) (b .block-size .result) (c .before .host-at .result) (c .host-size .result)
+both c =
+    let b = c .before .before in
+    both-lent (start b .pre) (b .before .block-at .ensures) (b .block-size .ensures) (c .before .host-at .ensures) (c .host-size .ensures)
+
+abbrev lends : tie.After-commit-of → tie.After-host-size
+lends c = c .before .before .before
+
+abbrev commits : tie.After-judge-arg → tie.After-commit
+commits c = c .before .before .before
+
 commit-of-requires : tie.Need-commit-of-requires
-commit-of-requires c κs = running-block (block-lent (c .before .before .before .before .before .before .before .pre .table) (c .before .before .before .before .before .before .before .pre .member) (c .before .before .before .before .before .block-at .ensures) (c .before .before .before .before .block-size .ensures)) (c .before .before .before .before .before .before .before .pre .slot)
+commit-of-requires c κs = both-running (both (c .before .before))
 
 commit-requires : tie.Need-commit-requires
 unfolding recordIn sentRecord
-commit-requires c κs =
-    let h = block-lent (c .before .before .before .before .before .before .before .before .before .pre .table) (c .before .before .before .before .before .before .before .before .before .pre .member) (c .before .before .before .before .before .before .before .block-at .ensures) (c .before .before .before .before .before .before .block-size .ensures) in
-    slot-lent (host-lent (c .before .before .before .before .before .before .before .before .before .pre .table) (c .before .before .before .before .before .host-at .ensures) (c .before .before .before .before .host-size .ensures)) (rw (ap (λ r. r .slot) (c .before .commit-of .ensures) ∙ ap (λ m. m .slot) (member-lent h)) (c .before .before .before .before .before .before .before .before .before .pre .slot))
+commit-requires c κs = slot-of (both (lends (c .before))) (ap (λ r. r .slot) (c .before .commit-of .ensures))
 
 judge-requires : tie.Need-judge-requires
 judge-requires c κs =
-    let t = host-lent (c .before .before .before .before .before .before .before .before .before .before .before .before .before .pre .table) (c .before .before .before .before .before .before .before .before .before .host-at .ensures) (c .before .before .before .before .before .before .before .before .host-size .ensures) in
-    whole-block (block-lent (host-table t (c .before .before .before .commit .last .0) (c .before .before .before .commit .kept .0)) (c .before .before .before .before .before .before .before .before .before .before .before .before .before .pre .member) (c .before .before .before .before .before .before .before .before .before .before .before .block-at .ensures) (c .before .before .before .before .before .before .before .before .before .before .block-size .ensures))
+    let s = commits c in
+    whole-block (lent-again (both (lends (s .before .before))) (s .commit .last .0) (s .commit .kept .0))
 
 returns : tie.Need-returns
 unfolding recordIn
 returns c =
-    let h = block-lent (c .before .before .before .before .before .before .before .before .before .before .before .before .before .before .before .before .pre .table) (c .before .before .before .before .before .before .before .before .before .before .before .before .before .before .before .before .pre .member) (c .before .before .before .before .before .before .before .before .before .before .before .before .before .before .block-at .ensures) (c .before .before .before .before .before .before .before .before .before .before .before .before .before .block-size .ensures) in
-    let t = host-lent (c .before .before .before .before .before .before .before .before .before .before .before .before .before .before .before .before .pre .table) (c .before .before .before .before .before .before .before .before .before .before .before .before .host-at .ensures) (c .before .before .before .before .before .before .before .before .before .before .before .host-size .ensures) in
-    let post = c .before .before .before .before .before .before .commit .ensures in
-    commit-left h t (c .before .before .before .before .before .before .before .before .before .before .before .before .before .before .before .before .pre .slot) (c .before .before .before .before .before .before .commit .last .0) (c .before .before .before .before .before .before .commit .kept .0) (c .before .before .judge .last .0) (c .before .before .judge .kept .0)
-    (c .before .before .before .before .before .before .before .before .commit-of .result .slot) (recordIn (c .before .before .before .before .before .before .before .before .commit-of .result)) (c .before .before .before .before .before .before .commit .result)
-    (c .before .before .before .before .before .before .before .before .commit-of .ensures) refl (post .0) (post .1 .0) (post .1 .1) (c .before .before .judge .ensures)
+    let judges = c .before .before in
+    let s = commits (judges .before) in
+    let sends = s .before .before in
+    let post = s .commit .ensures in
+    commit-left (both (lends sends)) (s .commit .last .0) (s .commit .kept .0) (judges .judge .last .0) (judges .judge .kept .0) _ _ _
+    (sends .commit-of .ensures) refl (post .0) (post .1 .0) (post .1 .1) (judges .judge .ensures)
 
 pub commit-taken-spec : {M : Type 1} → statement M
 commit-taken-spec =

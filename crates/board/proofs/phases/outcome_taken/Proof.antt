@@ -1,22 +1,30 @@
+-- `outcome_taken` meets its contract: the block that is lent takes its outcome, and hands back what the member of the board does.
 use borrow.Author.Needs.{needs}
-use Rattle.tables.proofs.Lent.{block-lent, running-block, member-lent, step-left}
-use Rattle.model.specs.Member.{outcome}
 use Rattle.model.specs.Board.{outcomeTaken}
+use Rattle.model.specs.Member.{outcome}
+use Rattle.tables.proofs.Lent.{BlockLent, block-lent, member-lent, running-block, step-left}
 use Rattle.board.proofs.Between.{taken-of}
 use Rattle.board.proofs.phases.outcome_taken.Statement.{statement}
 use Rattle.board.proofs.phases.outcome_taken.Tie as tie
 
+abbrev start : tie.After-block-size → tie.Start
+start c = c .before .before .before
+
+lent : (c : tie.After-block-size) → let a = start c .args in
+    BlockLent (a .n) (a .member) (a .table .now) (c .before .block-at .result) (c .block-size .result)
+lent c = block-lent (start c .pre .table) (start c .pre .member) (c .before .block-at .ensures) (c .block-size .ensures)
+
 finish-requires : tie.Need-finish-requires
-finish-requires c κs = running-block (block-lent (c .before .before .before .before .pre .table) (c .before .before .before .before .pre .member) (c .before .before .block-at .ensures) (c .before .block-size .ensures)) (c .before .before .before .before .pre .slot)
+finish-requires c κs = running-block (lent (c .before)) (start (c .before) .pre .slot)
 
 returns : tie.Need-returns
 unfolding outcomeTaken
 returns c =
-    let a = (c .before .before .before .before .before .before .before .args) in
-    let h = block-lent (c .before .before .before .before .before .before .before .pre .table) (c .before .before .before .before .before .before .before .pre .member) (c .before .before .before .before .before .block-at .ensures) (c .before .before .before .before .block-size .ensures) in
-    let post = c .before .before .finish .ensures in (
-      taken-of (a .accepted) (member-lent h) (post .0),
-      step-left h (c .before .before .finish .last .0) (c .before .before .finish .kept .0) (λ m. outcome m (a .accepted)) (post .1),
+    let does = c .before .before in
+    let b = does .before .before in
+    let won = start b .args .accepted in (
+      taken-of won (member-lent (lent b)) (does .finish .ensures .0),
+      step-left (lent b) (does .finish .last .0) (does .finish .kept .0) (λ m. outcome m won) (does .finish .ensures .1),
     )
 
 pub outcome-taken-spec : {M : Type 1} → statement M
