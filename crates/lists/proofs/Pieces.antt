@@ -2,6 +2,7 @@
 use Prim.Native.Nat.{ℕ, zero, suc, _+_, _-_, _*_, _≤_, _<_}
 use native.Mathlib.Nat.{suc-mul, zero-mul, zero-add, suc-add, mul-le-mul-right}
 use native.Mathlib.Numerals.{add-one}
+use native.Mathlib.Nat.{mul-le-mul}
 use native.Mathlib.Omega.{arith}
 use mathlib.Core.Path.{_≡_, sym, ap, _∙_, fun-ext}
 use mathlib.Core.Bool.{false}
@@ -164,3 +165,7 @@ module _ {A : Type 0} (n : ℕ) (d : A) (s : ℕ) (f : (ℕ → ℕ) → A) wher
     unfolding pieces from
     pieces-laid l h = within-same n d (λ k. f (from (words (laid n l)) (place s k))) (λ k. f (words (l k)))
         (λ k p q. looks (from (words (laid n l)) (place s k)) (words (l k)) (λ i r. laid-at s l n h k p q i r))
+
+-- at most 12 pieces, of a size that was computed
+pub few-pieces : {m size s most : ℕ} → m ≤ 12 → size ≡ s → s ≤ most → m * size ≤ 12 * most
+few-pieces p e q = mul-le-mul p (rw e q)

@@ -6,9 +6,10 @@ use mathlib.Core.Bool.{Bool, true, false}
 use mathlib.Core.List.{List}
 use lib.Dec.{eqb}
 use lib.ListN.{length, List·getD-eq-default}
+use borrow.Author.Tests.{eq-eqb, ne-eqb}
 use Rattle.lists.specs.Functions.{inside, each}
 use Rattle.lists.specs.Parts.{words}
-use Rattle.lists.proofs.Functions.{within-at, inside-low, inside-high}
+use Rattle.lists.proofs.Functions.{within-at, inside-in, inside-low, inside-high}
 use Rattle.model.specs.Table.{tableSize, blockAt, phaseAt, boardOf, tableNumber, soundMember, soundHost, soundBoard}
 use Rattle.model.specs.TableCalls.{phaseWords}
 use Rattle.checks.specs.Needs.{Within}
@@ -33,27 +34,36 @@ module _ (l : List ℕ) where
   unfolding inside
   empty-refused e = size-refused (ap (inside 12) (List·getD-eq-default l 0 (omega (arith, e))))
 
-  module _ (p : inside 12 n ≡ true) where
-    pub length-refused : eqb (length l) (tableSize n) ≡ false → 2 ≡ tableNumber l
-    unfolding tableNumber
-    length-refused q = rw (p, q)
+  pub length-refused : inside 12 n ≡ true → (length l ≡ tableSize n → ⊥) → 2 ≡ tableNumber l
+  unfolding tableNumber
+  length-refused p q = rw (p, ne-eqb (length l) (tableSize n) q)
 
-    module _ (q : eqb (length l) (tableSize n) ≡ true) where
-      pub blocks-refused : each n (soundAt n l) ≡ false → 3 ≡ tableNumber l
-      unfolding tableNumber soundBoard
-      blocks-refused r = rw (p, q, r)
+  -- a table of the right size and length
+  pub whole-table : inside 12 n ≡ true → length l ≡ tableSize n → Table n l
+  whole-table p q = record { least = inside-low 12 n p; most = inside-high 12 n p; long = q; size = refl }
 
-      pub host-refused : each n (soundAt n l) ≡ true → soundEntries n l ≡ false → 3 ≡ tableNumber l
-      unfolding tableNumber soundBoard
-      host-refused r s = rw (p, q, r, s)
+module _ {l : List ℕ} (t : Table (words l 0) l) where
+  abbrev size : ℕ
+  size = words l 0
 
-      pub none-refused : each n (soundAt n l) ≡ true → soundEntries n l ≡ true → 0 ≡ tableNumber l
-      unfolding tableNumber soundBoard
-      none-refused r s = rw (p, q, r, s)
+  p : inside 12 size ≡ true
+  p = inside-in 12 size (t .least) (t .most)
 
--- a table of the right size and length
-pub table-of : (l : List ℕ) → inside 12 (words l 0) ≡ true → length l ≡ tableSize (words l 0) → Table (words l 0) l
-table-of l p q = record { least = inside-low 12 (words l 0) p; most = inside-high 12 (words l 0) p; long = q; size = refl }
+  q : eqb (length l) (tableSize size) ≡ true
+  q = eq-eqb (length l) (tableSize size) (t .long)
+
+  pub blocks-refused : each size (soundAt size l) ≡ false → 3 ≡ tableNumber l
+  unfolding tableNumber soundBoard
+  blocks-refused r = rw (p, q, r)
+
+  module _ (r : each size (soundAt size l) ≡ true) where
+    pub host-refused : soundEntries size l ≡ false → 3 ≡ tableNumber l
+    unfolding tableNumber soundBoard
+    host-refused s = rw (p, q, r, s)
+
+    pub none-refused : soundEntries size l ≡ true → 0 ≡ tableNumber l
+    unfolding tableNumber soundBoard
+    none-refused s = rw (p, q, r, s)
 
 -- a member's phase as it stands in the words
 pub phase-at : {n i : ℕ} {l : List ℕ} → Table n l → Within n i → words l (blockAt n i) ≡ phaseWords l i
