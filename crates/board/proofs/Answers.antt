@@ -113,7 +113,8 @@ module _ {k : ℕ} (l exit : List ℕ) (call : Call) (e : k ≡ tableNumber l) (
   unfolding tableAnswer boardIn
   same-answer = rw passed
 
-  pub call-returns : {r : Option Value} → r ≡ cond (eqb (answerOf concur n b call) 0) (doneReturns b call) none → r ≡ tableReturns concur l call
+  pub call-returns : {r : Option Value} → r ≡ cond (eqb (answerOf concur n b call) 0) (doneReturns b call) none
+      → r ≡ tableReturns concur l call
   unfolding tableReturns boardIn
   call-returns h = rw (← same-answer) h
 

@@ -73,11 +73,13 @@ handed r v e blank = on (r .returned)
     (λ p. rw (p, blank p) (nothing v (rw p at e)))
 
 module _ (returned l : List ℕ) (call : Call) where
-  pub returned-kept : {k : ℕ} → k ≡ answerBeside (length returned) returnedSize l call → (k ≡ 0 → ⊥) → returned ≡ returnedAfter returned l call
+  pub returned-kept : {k : ℕ} → k ≡ answerBeside (length returned) returnedSize l call → (k ≡ 0 → ⊥)
+      → returned ≡ returnedAfter returned l call
   unfolding returnedAfter
   returned-kept e ne = stays returned _ e ne
 
-  pub returned-written : 0 ≡ answerBeside (length returned) returnedSize l call → {written : List ℕ} → written ≡ returnedWords (tableReturns concur l call)
+  pub returned-written : 0 ≡ answerBeside (length returned) returnedSize l call → {written : List ℕ}
+      → written ≡ returnedWords (tableReturns concur l call)
       → written ≡ returnedAfter returned l call
   unfolding returnedAfter
   returned-written e h = becomes returned _ (sym e) h

@@ -63,7 +63,11 @@ module _ (b : Board) (i : ℕ) (after : Board) (p : Member) where
   m = b .members i
 
   -- the host's entries after a submit and the member's state after the reply are the board's
-  pub submit-joins : after ≡ record { members = b .members; host = put (b .host) (m .slot) (submitted (b .host (m .slot)) i (m .own (m .slot))); stored = b .stored }
+  pub submit-joins : after ≡ record {
+    members = b .members;
+    host = put (b .host) (m .slot) (submitted (b .host (m .slot)) i (m .own (m .slot)));
+    stored = b .stored;
+  }
       → p ≡ answered m (b .host (m .slot) .newest) (b .stored (m .slot))
       → withMember after i p ≡ submitTaken b i
   unfolding withMember submitTaken

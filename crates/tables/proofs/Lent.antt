@@ -155,7 +155,8 @@ module _ {n i at size : ℕ} {l : List ℕ} (h : BlockLent n i l at size) where
   pub running-block : Within n (boardOf n (words l) .members i .slot) → Running n (part l at size)
   running-block s = record { block = whole-block h; slot = rw (member-lent h) s }
 
-  pub step-left : (p : List ℕ) → length p ≡ length (part l at size) → (f : Member → Member) → memberOf n (words p) ≡ f (memberOf n (words (part l at size)))
+  pub step-left : (p : List ℕ) → length p ≡ length (part l at size) → (f : Member → Member)
+      → memberOf n (words p) ≡ f (memberOf n (words (part l at size)))
       → Left n (withMember (boardOf n (words l)) i (f (boardOf n (words l) .members i))) (back l at size p)
   step-left p same f e = block-left h p same (ap (withMember (boardOf n (words l)) i) (e ∙ ap f (member-lent h)))
 
@@ -164,7 +165,8 @@ pub slot-lent : {n r at size : ℕ} {l : List ℕ} → HostLent n l at size → 
 slot-lent h r = record { most = h .table .most; long = whole-entries h .long; slotLeast = r .least; slotMost = r .most }
 
 pub sound-lent : {n at size : ℕ} {l : List ℕ} (h : HostLent n l at size)
-    → soundHost n (hostOf n (words (part l at size))) (storedRecordsOf n (words (part l at size))) ≡ soundHost n (boardOf n (words l) .host) (boardOf n (words l) .stored)
+    → soundHost n (hostOf n (words (part l at size))) (storedRecordsOf n (words (part l at size)))
+    ≡ soundHost n (boardOf n (words l) .host) (boardOf n (words l) .stored)
 sound-lent h = rw (entries-lent h, stored-lent h)
 
 -- the member after k

@@ -86,6 +86,7 @@ module _ (n : ℕ) (l : List ℕ) where
   unfolding openWords openNumber
   length-refused p q = (rw (p, ne-eqb (length l) (tableSize n) q), rw (p, ne-eqb (length l) (tableSize n) q))
 
-  pub opens : inside 12 n ≡ true → length l ≡ tableSize n → {exit : List ℕ} → Left n (opened n) exit → (0 ≡ openNumber concur n l) × (exit ≡ openWords concur n l)
+  pub opens : inside 12 n ≡ true → length l ≡ tableSize n → {exit : List ℕ} → Left n (opened n) exit
+      → (0 ≡ openNumber concur n l) × (exit ≡ openWords concur n l)
   unfolding openWords openNumber
   opens p q h = (rw (p, eq-eqb (length l) (tableSize n) q), rw (p, eq-eqb (length l) (tableSize n) q) (left-words h))

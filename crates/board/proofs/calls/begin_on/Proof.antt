@@ -45,7 +45,8 @@ unfolding answerOf
 answered c =
     let a = start-sized (sized c) .args in
     c .begin-refusal .ensures
-    ∙ ap (λ m. beginAnswer concur (a .n) (m .phase) (m .crashed) (m .own (a .slot)) (a .member) (a .slot) (a .operation)) (member-lent (lent (sized c)))
+    ∙ ap (λ m. beginAnswer concur (a .n) (m .phase) (m .crashed) (m .own (a .slot)) (a .member) (a .slot) (a .operation))
+    (member-lent (lent (sized c)))
 
 -- The needs.
 
@@ -76,7 +77,8 @@ returns-3 c =
     let else2 = begins .before .before in
     let s = start-sized (sized (else2 .before)) in
     takes _ _ (call s) _ (sym (else2 .if2 .left) ∙ answered (else2 .before))
-    (step-left (lent (sized (else2 .before))) (begins .begin .last .0) (begins .begin .kept .0) (λ m. begun m (s .args .slot) (s .args .operation) (valueOf (words (s .args .value)))) (begins .begin .ensures))
+    (step-left (lent (sized (else2 .before))) (begins .begin .last .0) (begins .begin .kept .0)
+    (λ m. begun m (s .args .slot) (s .args .operation) (valueOf (words (s .args .value)))) (begins .begin .ensures))
 
 pub begin-on-spec : {M : Type 1} → statement M
 begin-on-spec =

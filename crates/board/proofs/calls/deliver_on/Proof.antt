@@ -50,7 +50,8 @@ passed c = c .before .before .before
 returns : tie.Need-returns
 returns c =
     let s = c .before .before .before .before in
-    hands-none _ _ (call s) _ (s .pre .table) (no-deliver _ _ _ (refused (c .before .before .is-numbered .ensures) (c .before .if1 .taken))) (λ e. omega arith)
+    hands-none _ _ (call s) _ (s .pre .table) (no-deliver _ _ _ (refused (c .before .before .is-numbered .ensures) (c .before .if1 .taken)))
+    (λ e. omega arith)
     (c .nothing .ensures)
 
 block-at-requires : tie.Need-block-at-requires

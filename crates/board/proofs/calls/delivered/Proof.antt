@@ -3,7 +3,6 @@ use borrow.Author.Needs.{needs}
 use mathlib.Core.Path.{_∙_, refl, sym}
 use Rattle.lists.specs.Parts.{words}
 use Rattle.model.specs.Board.{Board}
-use Rattle.model.specs.Kinds.{concur}
 use Rattle.model.specs.Table.{boardOf}
 use Rattle.model.proofs.Steps.{board-phase}
 use Rattle.board.proofs.Answers.{last-phase, last-returned, none-taken}

@@ -1,3 +1,4 @@
+-- `nothing` meets its contract: by computing, and eight zeros are the zero value.
 use mathlib.Core.Path.{refl}
 use Rattle.member.specs.Results.{returnedIn}
 use Rattle.board.proofs.Between.{zero-value}

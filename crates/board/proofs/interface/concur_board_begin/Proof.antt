@@ -38,7 +38,8 @@ returns-3 c =
     let does = c .before .before in
     let left = fit (does .before .before) in
     let value = does .before .load-value .ensures ∙ from-start (words (start (left .before .before) .args .value .now)) in
-    done-beside _ _ _ _ (left .before .before .table-number .ensures) (left .before .if1 .left) (left .if2 .left) (same-value value (does .begin-on .ensures))
+    done-beside _ _ _ _ (left .before .before .table-number .ensures) (left .before .if1 .left) (left .if2 .left)
+    (same-value value (does .begin-on .ensures))
 
 pub concur-board-begin-spec : {M : Type 1} → statement M
 concur-board-begin-spec =

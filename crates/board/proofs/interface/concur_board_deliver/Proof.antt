@@ -1,5 +1,5 @@
--- `concur_board_deliver` meets its contract: the table's own number, the slice's length, or `deliver_on`, whose refusal leaves the slice and
--- whose value is else written to it.
+-- `concur_board_deliver` meets its contract: the table's own number, the slice's length, or `deliver_on`; a refusal leaves the slice, and
+-- else what is handed back is written to it.
 use borrow.Author.Needs.{needs}
 use native.Mathlib.Omega.{arith}
 use mathlib.Core.Path.{_∙_, sym}
@@ -25,7 +25,8 @@ done : (c : tie.After-deliver-on) → let a = start (fit c .before .before) .arg
     Beside (length (a .returned .now)) 9 (a .table .now) (deliver (a .member)) (c .deliver-on .result .number) (c .deliver-on .last .0)
 done c =
     let left = fit c in
-    done-beside _ _ _ _ (left .before .before .table-number .ensures) (left .before .if1 .left) (left .if2 .left) (c .deliver-on .ensures .0)
+    done-beside _ _ _ _ (left .before .before .table-number .ensures) (left .before .if1 .left) (left .if2 .left)
+    (c .deliver-on .ensures .0)
 
 returns : tie.Need-returns
 returns c =
@@ -60,7 +61,8 @@ returns-4 c =
     let left = fit does in
     let r = does .deliver-on .ensures .1 in
     let k = sym (taken .if3 .left) ∙ done does .0 in
-    let value = call-returns _ (does .deliver-on .last .0) _ (left .before .before .table-number .ensures) (left .before .if1 .left) (r .0) in
+    let value = call-returns _ (does .deliver-on .last .0) _ (left .before .before .table-number .ensures) (left .before .if1 .left)
+    (r .0) in
     (k, (done does .1, returned-written _ _ _ k (out .hand-out .ensures ∙ handed (does .deliver-on .result) _ value (r .1))))
 
 pub concur-board-deliver-spec : {M : Type 1} → statement M

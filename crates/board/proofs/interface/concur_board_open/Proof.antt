@@ -1,3 +1,4 @@
+-- `concur_board_open` meets its contract: it is `open`.
 use borrow.Author.Needs.{needs}
 use Rattle.board.proofs.interface.concur_board_open.Statement.{statement}
 use Rattle.board.proofs.interface.concur_board_open.Tie as tie

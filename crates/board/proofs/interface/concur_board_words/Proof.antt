@@ -1,3 +1,4 @@
+-- `concur_board_words` meets its contract: 0 where n is no size, and else the size of its table.
 use borrow.Author.Needs.{needs}
 use native.Mathlib.Omega.{arith}
 use Rattle.lists.proofs.Functions.{inside-high}

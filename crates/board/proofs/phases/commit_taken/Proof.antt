@@ -12,7 +12,8 @@ abbrev start : tie.After-block-size → tie.Start
 start c = c .before .before .before
 
 both : (c : tie.After-host-size) → let b = c .before .before in let a = start b .args in
-    BothLent (a .n) (a .member) (a .table .now) (b .before .block-at .result) (b .block-size .result) (c .before .host-at .result) (c .host-size .result)
+    BothLent (a .n) (a .member) (a .table .now) (b .before .block-at .result) (b .block-size .result) (c .before .host-at .result)
+    (c .host-size .result)
 both c =
     let b = c .before .before in
     both-lent (start b .pre) (b .before .block-at .ensures) (b .block-size .ensures) (c .before .host-at .ensures) (c .host-size .ensures)

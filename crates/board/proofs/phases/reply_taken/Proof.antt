@@ -22,7 +22,8 @@ returns c =
     let does = c .before .before in
     let b = does .before .before in
     let a = start b .args in
-    step-left (lent b) (does .reply-noted .last .0) (does .reply-noted .kept .0) (λ m. replied (a .n) (a .member) m (m .first) (m .second) 3)
+    step-left (lent b) (does .reply-noted .last .0) (does .reply-noted .kept .0)
+    (λ m. replied (a .n) (a .member) m (m .first) (m .second) 3)
     (does .reply-noted .ensures)
 
 pub reply-taken-spec : {M : Type 1} → statement M

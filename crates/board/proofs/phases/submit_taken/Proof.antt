@@ -9,7 +9,8 @@ abbrev start : tie.After-block-size → tie.Start
 start c = c .before .before .before
 
 both : (c : tie.After-host-size) → let b = c .before .before in let a = start b .args in
-    BothLent (a .n) (a .member) (a .table .now) (b .before .block-at .result) (b .block-size .result) (c .before .host-at .result) (c .host-size .result)
+    BothLent (a .n) (a .member) (a .table .now) (b .before .block-at .result) (b .block-size .result) (c .before .host-at .result)
+    (c .host-size .result)
 both c =
     let b = c .before .before in
     both-lent (start b .pre) (b .before .block-at .ensures) (b .block-size .ensures) (c .before .host-at .ensures) (c .host-size .ensures)
@@ -38,7 +39,8 @@ returns c =
     let sends = s .before .before in
     let post = s .submit .ensures .1 in
     submit-left (both (lends sends)) (s .submit .last .0) (s .submit .kept .0) (answers .answer .last .0) (answers .answer .kept .0) _ _ _ _
-    (sends .submit-of .ensures .0) (sends .submit-of .ensures .1) (post .0) (post .1 .0) (post .1 .1 .0) (post .1 .1 .1) (answers .answer .ensures)
+    (sends .submit-of .ensures .0) (sends .submit-of .ensures .1) (post .0) (post .1 .0) (post .1 .1 .0) (post .1 .1 .1)
+    (answers .answer .ensures)
 
 pub submit-taken-spec : {M : Type 1} → statement M
 submit-taken-spec =

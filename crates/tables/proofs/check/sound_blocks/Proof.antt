@@ -45,7 +45,11 @@ returns : tie.Need-returns Inv-loop μ-loop
 returns c = let one = c .before in stops _ _ _ (one .before .before .before .loop-test .taken) (judged one) (c .if1 .taken)
 
 loop-again : tie.Need-loop-again Inv-loop μ-loop
-loop-again c = (search needs, goes-on (start (at-loop (c .before)) .args .n) _ _ (at-loop (c .before) .loop .inv .1) (judged (c .before)) (c .if1 .left))
+loop-again c = (
+  search needs,
+  goes-on (start (at-loop (c .before)) .args .n) _ _ (at-loop (c .before) .loop .inv .1) (judged (c .before))
+      (c .if1 .left),
+)
 
 returns-2 : tie.Need-returns-2 Inv-loop μ-loop
 returns-2 c = ends _ _ (c .before .loop .passed) (omega arith) (c .before .loop .inv .1)
