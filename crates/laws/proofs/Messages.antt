@@ -4,7 +4,7 @@ use Prim.Native.Nat.{ℕ, zero, suc, _+_, _-_, _*_, _/_, _%_, _≤_, _<_}
 use native.Mathlib.Nat.{div-div-eq-div-mul, div-lt-iff-lt-mul, mod-lt}
 use native.Mathlib.Omega.{arith}
 use mathlib.Core.Path.{_≡_, refl, sym, ap, _∙_, fun-ext}
-use mathlib.Core.Bool.{Bool, true, false, cond, not, _&&_, _||_}
+use mathlib.Core.Bool.{Bool, true, false, _&&_, _||_}
 use mathlib.Core.List.{List, [], _∷_, _++_}
 use mathlib.Core.Option.{Option, none, some}
 use lib.Dec.{eqb, ltb}
@@ -12,48 +12,20 @@ use lib.ListN.{length, length-append, List·getD-append}
 use borrow.Author.Tests.{eq-eqb, ne-eqb, lt-ltb, le-ltb, eqb-true, eqb-false, ltb-true, ltb-false}
 use Rattle.lists.specs.Functions.{from, pasted, inside, each}
 use Rattle.lists.specs.Parts.{words, tabulate}
-use Rattle.lists.proofs.Functions.{on, by-place, first, second, each-at, inside-in, inside-low, inside-high, from-at, from-first, from-from, pasted-join}
+use Rattle.lists.proofs.Functions.{on, by-place, first, second, each-at, inside-in, inside-low}
+use Rattle.lists.proofs.Functions.{inside-high, from-at, from-first, from-from, pasted-join}
+use Rattle.lists.proofs.Refusals.{no-ground, no-failure}
 use Rattle.lists.proofs.Parts.{length-tabulate, tabulate-at, tabulate-same, tabulate-words, tabulate-append, from-append}
 use Rattle.model.specs.Records.{Rec, recordWithin}
 use Rattle.model.specs.RecordWords.{recordSize, valueOf, matrixOf, recordOf, recordWords, matrixWord}
 use Rattle.model.specs.Kinds.{isOperation}
 use Rattle.model.specs.Halves.{fitRecord}
-use Rattle.model.specs.Messages.{
-  Message,
-  submit,
-  reply,
-  commit,
-  outcome,
-  kindOf,
-  lengthOf,
-  numberBytes,
-  numberOf,
-  byteIn,
-  numberIn,
-  headed,
-  recordByte,
-  recordWord,
-  recordLength,
-  recordBytes,
-  recordFrom,
-  fieldBytes,
-  framed,
-  encode,
-  messageFrom,
-  fitMessage,
-  rightN,
-  readNumber,
-  decode,
-  fitGiven,
-  writtenLength,
-  writeNumber,
-  smallRecord,
-  small,
-  fits,
-  Bytes,
-  messageWithin,
-}
-use Rattle.laws.proofs.Records.{square-small, square-pos, head-words, value-words, matrix-words, recordOf-same, recordOf-words, recordWords-of}
+use Rattle.model.specs.Messages.{Message, submit, reply, commit, outcome, kindOf, lengthOf, numberBytes, numberOf, byteIn, numberIn}
+use Rattle.model.specs.Messages.{headed, recordByte, recordWord, recordLength, recordBytes, recordFrom, fieldBytes, framed, encode}
+use Rattle.model.specs.Messages.{messageFrom, fitMessage, rightN, readNumber, decode, fitGiven, writtenLength, writeNumber, smallRecord}
+use Rattle.model.specs.Messages.{small, fits, Bytes, messageWithin}
+use Rattle.laws.proofs.Records.{square-small, square-pos, head-words, value-words}
+use Rattle.laws.proofs.Records.{matrix-words, recordOf-same, recordOf-words, recordWords-of}
 
 -- Numbers of four bytes.
 
@@ -236,28 +208,31 @@ module _ (n : ℕ) (r : Rec) (ok : smallRecord n r ≡ true) where
   counts : Bool
   counts = each n (λ j. each n (λ k. ltb (r .matrix j k) 4294967296))
 
-  small-count : words (recordWords n r) 3 < 4294967296
+  parts : (ltb (r .count) 4294967296 ≡ true) × ((values ≡ true) × (counts ≡ true))
   unfolding smallRecord values counts
-  small-count = rw (head-words n r 3 (omega arith)) (ltb-true (r .count) 4294967296 (first (ltb (r .count) 4294967296) (values && counts) ok))
+  parts =
+      let rest = second (ltb (r .count) 4294967296) (values && counts) ok in
+      (first (ltb (r .count) 4294967296) (values && counts) ok, (first values counts rest, second values counts rest))
+
+  small-count : words (recordWords n r) 3 < 4294967296
+  small-count = rw (head-words n r 3 (omega arith)) (ltb-true (r .count) 4294967296 (parts .0))
 
   small-value : (i : ℕ) → i < 8 → from (words (recordWords n r)) 4 i < 4294967296
-  unfolding smallRecord values counts
+  unfolding values
   small-value i h =
       rw (value-words n r i h)
       (ltb-true (r .value (i + 1)) 4294967296
-      (each-at 8 (λ i. ltb (r .value i) 4294967296) (first values counts (second (ltb (r .count) 4294967296) (values && counts) ok)) (i + 1) (omega arith) (omega arith)))
+      (each-at 8 (λ i. ltb (r .value i) 4294967296) (parts .1 .0) (i + 1) (omega arith) (omega arith)))
 
   small-matrix : (i : ℕ) → i < n * n → from (words (recordWords n r)) 12 i < 4294967296
-  unfolding smallRecord values counts matrixWord
+  unfolding counts matrixWord
   small-matrix i h =
       let row : i / n < n = div-lt-iff-lt-mul (square-pos n i h) .1 h in
       let column : i % n < n = mod-lt i (square-pos n i h) in
+      let each-row = each-at n (λ j. each n (λ k. ltb (r .matrix j k) 4294967296)) (parts .1 .1) (i / n + 1) (omega arith) (omega arith) in
       rw (matrix-words n r i h)
       (ltb-true (r .matrix (i / n + 1) (i % n + 1)) 4294967296
-      (each-at n (λ k. ltb (r .matrix (i / n + 1) k) 4294967296)
-      (each-at n (λ j. each n (λ k. ltb (r .matrix j k) 4294967296)) (second values counts (second (ltb (r .count) 4294967296) (values && counts) ok))
-      (i / n + 1) (omega arith) (omega arith))
-      (i % n + 1) (omega arith) (omega arith)))
+      (each-at n (λ k. ltb (r .matrix (i / n + 1) k) 4294967296) each-row (i % n + 1) (omega arith) (omega arith)))
 
   record-small : (k : ℕ) → 3 + k < recordSize n → words (recordWords n r) (3 + k) < 4294967296
   unfolding recordSize from
@@ -270,7 +245,7 @@ module _ (n : ℕ) (r : Rec) (ok : smallRecord n r ≡ true) where
   pub record-back : recordFrom n (words (recordBytes n r)) ≡ recordWithin n r
   unfolding recordBytes recordFrom recordByte recordWord from
   record-back =
-      recordFrom-same n (words (recordBytes n r)) (recordByte (words (recordWords n r))) (tabulate-at (recordLength n) (recordByte (words (recordWords n r))))
+      recordFrom-same n (words (recordBytes n r)) (recordByte w) (tabulate-at (recordLength n) (recordByte w))
       ∙ recordOf-same n (recordWord (recordByte w)) w (λ i p. by-three (λ i. recordWord (recordByte w) i ≡ w i) i
       (λ q. headed-first (recordByte w) (numberIn (from (recordByte w) 3)) i q ∙ headed-first w (byteIn (from w 3)) i q)
       (λ k e. headed-past (recordByte w) (numberIn (from (recordByte w) 3)) k
@@ -338,29 +313,21 @@ pub record Readable (n : ℕ) (l : List ℕ) : Type 0 where
   pub right : rightN n (words l) ≡ true
   pub fit : fitMessage n (messageFrom n (words l)) ≡ true
 
--- a number that is none: the test passed, and the rest is none
-passed : (t : Bool) {k rest : ℕ} → 0 < k → cond (not t) k rest ≡ 0 → (t ≡ true) × (rest ≡ 0)
-passed true h e = (refl, e)
-passed false h e = absurd (omega arith)
-
-under : (t : Bool) {k rest : ℕ} → 0 < k → cond t k rest ≡ 0 → (t ≡ false) × (rest ≡ 0)
-under true h e = absurd (omega arith)
-under false h e = (refl, e)
-
 pub readable : (n : ℕ) (l : List ℕ) → readNumber n l ≡ 0 → Readable n l
 unfolding readNumber
 readable n l h =
     let b = words l in
-    let p = passed (inside 12 n) (omega arith) h in
-    let q = under (ltb (length l) 4) (omega arith) (p .1) in
-    let r = passed (eqb (b 0 * 256 + b 1) (length l - 2)) (omega arith) (q .1) in
-    let s = passed (eqb (b 2) 1) (omega arith) (r .1) in
-    let t = passed (inside 4 (b 3)) (omega arith) (s .1) in
+    let p = no-failure (inside 12 n) (omega arith) h in
+    let q = no-ground (ltb (length l) 4) (omega arith) (p .1) in
+    let r = no-failure (eqb (b 0 * 256 + b 1) (length l - 2)) (omega arith) (q .1) in
+    let s = no-failure (eqb (b 2) 1) (omega arith) (r .1) in
+    let t = no-failure (inside 4 (b 3)) (omega arith) (s .1) in
     let fields : Bool = rightN n b && fitMessage n (messageFrom n b) in
-    let u = passed (eqb (length l - 2) (lengthOf (b 3) n) && fields) (omega arith) (t .1) in
+    let u = no-failure (eqb (length l - 2) (lengthOf (b 3) n) && fields) (omega arith) (t .1) in
     let v = second (eqb (length l - 2) (lengthOf (b 3) n)) fields (u .0) in
     let head : 4 ≤ length l = ltb-false (length l) 4 (q .0) in
-    let size : length l - 2 ≡ lengthOf (b 3) n = eqb-true (length l - 2) (lengthOf (b 3) n) (first (eqb (length l - 2) (lengthOf (b 3) n)) fields (u .0)) in
+    let due = first (eqb (length l - 2) (lengthOf (b 3) n)) fields (u .0) in
+    let size : length l - 2 ≡ lengthOf (b 3) n = eqb-true (length l - 2) (lengthOf (b 3) n) due in
     record {
       low = inside-low 12 n (p .0);
       high = inside-high 12 n (p .0);
@@ -374,15 +341,23 @@ readable n l h =
       fit = second (rightN n b) (fitMessage n (messageFrom n b)) v;
     }
 
+-- What the length of a message is asked for: a kind, and n 1 to 12.
+pub length-asked : {k n : ℕ} → inside 4 k ≡ true → inside 12 n ≡ true → (1 ≤ k) × ((k ≤ 4) × ((1 ≤ n) × (n ≤ 12)))
+length-asked {k} {n} p q = (inside-low 4 k p, (inside-high 4 k p, (inside-low 12 n q, inside-high 12 n q)))
+
 -- A message that the writer takes: n is 1 to 12, the fields fit, and there is room.
-pub writable-of : (n : ℕ) (m : Option Message) (room : ℕ) → writeNumber n m room ≡ 0
-    → (inside 12 n ≡ true) × ((fitGiven n m ≡ true) × (writtenLength n m ≤ room))
+pub record Writable (n : ℕ) (m : Option Message) (room : ℕ) : Type 0 where
+  pub size : inside 12 n ≡ true
+  pub fit : fitGiven n m ≡ true
+  pub long : writtenLength n m ≤ room
+
+pub writable-of : (n : ℕ) (m : Option Message) (room : ℕ) → writeNumber n m room ≡ 0 → Writable n m room
 unfolding writeNumber
 writable-of n m room h =
-    let p = passed (inside 12 n) (omega arith) h in
-    let q = passed (fitGiven n m) (omega arith) (p .1) in
-    let r = under (ltb room (writtenLength n m)) (omega arith) (q .1) in
-    (p .0, (q .0, ltb-false room (writtenLength n m) (r .0)))
+    let p = no-failure (inside 12 n) (omega arith) h in
+    let q = no-failure (fitGiven n m) (omega arith) (p .1) in
+    let r = no-ground (ltb room (writtenLength n m)) (omega arith) (q .1) in
+    record { size = p .0; fit = q .0; long = ltb-false room (writtenLength n m) (r .0) }
 
 -- member, slot and type that fit are bytes
 pub fit-small : (n i r t : ℕ) → n ≤ 12 → (inside n i && inside n r && isOperation t) ≡ true → (i < 256) × ((r < 256) × (t < 256))
@@ -418,6 +393,15 @@ taken n l h =
     )
 
 -- The message in bytes, by its kind.
+
+pub by-kind : {B : Type 0} (k : ℕ) → (k ≡ 1 → B) → (k ≡ 2 → B) → (k ≡ 3 → B) → (k ≡ 4 → B)
+    → ((k ≡ 1 → ⊥) → (k ≡ 2 → ⊥) → (k ≡ 3 → ⊥) → (k ≡ 4 → ⊥) → B) → B
+by-kind k a b c d other =
+    on (eqb k 1) (λ p. a (eqb-true k 1 p)) (λ p.
+    on (eqb k 2) (λ q. b (eqb-true k 2 q)) (λ q.
+    on (eqb k 3) (λ r. c (eqb-true k 3 r)) (λ r.
+    on (eqb k 4) (λ s. d (eqb-true k 4 s)) (λ s.
+    other (eqb-false k 1 p) (eqb-false k 2 q) (eqb-false k 3 r) (eqb-false k 4 s)))))
 
 module _ (n : ℕ) (b : ℕ → ℕ) where
   pub from-submit : b 3 ≡ 1 → messageFrom n b ≡ submit (b 4) (b 5) (b 6) (numberOf (from b 7))
@@ -489,7 +473,8 @@ module _ (n : ℕ) where
   unfolding kindOf lengthOf fieldBytes
   submit-parts i r t count = encode-parts n (submit i r t count)
 
-  pub reply-parts : (newest stored : Rec) → encode n (reply newest stored) ≡ heading (lengthOf 2 n) 2 n ++ (recordBytes n newest ++ recordBytes n stored)
+  pub reply-parts : (newest stored : Rec)
+      → encode n (reply newest stored) ≡ heading (lengthOf 2 n) 2 n ++ (recordBytes n newest ++ recordBytes n stored)
   unfolding kindOf fieldBytes
   reply-parts newest stored = encode-parts n (reply newest stored)
 
@@ -504,17 +489,20 @@ module _ (n : ℕ) where
 -- A message written is read back.
 
 -- two records one after the other
-second-record : (n : ℕ) (p : List ℕ) (q : Rec) (l : List ℕ) → from (words (p ++ (recordBytes n q ++ l))) (length p + recordLength n) ≡ words l
+second-record : (n : ℕ) (p : List ℕ) (q : Rec) (l : List ℕ)
+    → from (words (p ++ (recordBytes n q ++ l))) (length p + recordLength n) ≡ words l
 second-record n p q l =
     sym (from-from (words (p ++ (recordBytes n q ++ l))) (length p) (recordLength n))
     ∙ ap (λ w. from w (recordLength n)) (from-append p (recordBytes n q ++ l))
     ∙ ap (from (words (recordBytes n q ++ l))) (sym (length-recordBytes n q))
     ∙ from-append (recordBytes n q) l
 
-first-record : (n : ℕ) (p : List ℕ) (q : Rec) (l : List ℕ) → recordFrom n (from (words (p ++ (recordBytes n q ++ l))) (length p)) ≡ recordFrom n (words (recordBytes n q))
+first-record : (n : ℕ) (p : List ℕ) (q : Rec) (l : List ℕ)
+    → recordFrom n (from (words (p ++ (recordBytes n q ++ l))) (length p)) ≡ recordFrom n (words (recordBytes n q))
 first-record n p q l =
     ap (recordFrom n) (from-append p (recordBytes n q ++ l))
-    ∙ recordFrom-same n (words (recordBytes n q ++ l)) (words (recordBytes n q)) (λ i h. List·getD-append (recordBytes n q) l 0 i (rw length-recordBytes h))
+    ∙ recordFrom-same n (words (recordBytes n q ++ l)) (words (recordBytes n q))
+    (λ i h. List·getD-append (recordBytes n q) l 0 i (rw length-recordBytes h))
 
 message-back : (n : ℕ) (m : Message) → small n m ≡ true → messageFrom n (words (encode n m)) ≡ messageWithin n m
 unfolding messageWithin small
@@ -599,8 +587,8 @@ module _ (n : ℕ) (l : List ℕ) (whole : Bytes l) (h : Readable n l) where
   b = words l
 
   -- enough: the kind, and the bytes after it
-  same-bytes : (m : Message) (k : ℕ) → b 3 ≡ k → kindOf m ≡ k → (size : ℕ) → lengthOf k n ≡ 2 + size → fieldBytes n m ≡ tabulate size (from b 4)
-      → encode n m ≡ l
+  same-bytes : (m : Message) (k : ℕ) → b 3 ≡ k → kindOf m ≡ k
+      → (size : ℕ) → lengthOf k n ≡ 2 + size → fieldBytes n m ≡ tabulate size (from b 4) → encode n m ≡ l
   unfolding encode framed b tabulate from
   same-bytes m k e c size d f =
       (λ i. high i ∷ low i ∷ sym (h .version) i ∷ (c ∙ sym e) i ∷ f i)
@@ -645,12 +633,15 @@ module _ (n : ℕ) (l : List ℕ) (whole : Bytes l) (h : Readable n l) where
   reply-again : b 3 ≡ 2 → encode n (messageFrom n b) ≡ l
   unfolding kindOf lengthOf recordLength fieldBytes
   reply-again e =
+      let k = recordLength n in
+      let newest = recordFrom n (from b 5) in
+      let stored = recordFrom n (from b (5 + k)) in
       ap (encode n) (from-reply n b e)
-      ∙ same-bytes (reply (recordFrom n (from b 5)) (recordFrom n (from b (5 + recordLength n)))) 2 e refl (1 + (recordLength n + recordLength n)) (omega arith)
-      (named-part 2 refl e (recordLength n + recordLength n) (recordBytes n (recordFrom n (from b 5)) ++ recordBytes n (recordFrom n (from b (5 + recordLength n))))
-      ((λ i. record-part 5 i ++ record-part (5 + recordLength n) i)
-      ∙ ap (λ w. tabulate (recordLength n) (from b 5) ++ tabulate (recordLength n) w) (sym (from-from b 5 (recordLength n)))
-      ∙ sym (tabulate-append (recordLength n) (recordLength n) (from b 5))))
+      ∙ same-bytes (reply newest stored) 2 e refl (1 + (k + k)) (omega arith)
+      (named-part 2 refl e (k + k) (recordBytes n newest ++ recordBytes n stored)
+      ((λ i. record-part 5 i ++ record-part (5 + k) i)
+      ∙ ap (λ w. tabulate k (from b 5) ++ tabulate k w) (sym (from-from b 5 k))
+      ∙ sym (tabulate-append k k (from b 5))))
 
   commit-again : b 3 ≡ 3 → encode n (messageFrom n b) ≡ l
   unfolding kindOf lengthOf recordLength fieldBytes
@@ -665,18 +656,19 @@ module _ (n : ℕ) (l : List ℕ) (whole : Bytes l) (h : Readable n l) where
 
   pub again : encode n (messageFrom n (words l)) ≡ l
   unfolding b
-  again = on (eqb (b 3) 1) (λ e. submit-again (eqb-true (b 3) 1 e)) (λ p.
-      on (eqb (b 3) 2) (λ e. reply-again (eqb-true (b 3) 2 e)) (λ q.
-      on (eqb (b 3) 3) (λ e. commit-again (eqb-true (b 3) 3 e)) (λ r.
-      outcome-again (omega (arith, h .kind-low, h .kind-high, eqb-false (b 3) 1 p, eqb-false (b 3) 2 q, eqb-false (b 3) 3 r)))))
+  again = by-kind (b 3) submit-again reply-again commit-again outcome-again (λ p q r s. absurd (omega (arith, h .kind-low, h .kind-high)))
 
--- THE SECOND ROUND TRIP: bytes that were accepted, written again, are the same bytes.
-pub written-again : (n : ℕ) (l : List ℕ) (m : Message) → Bytes l → decode n l ≡ some m → encode n m ≡ l
+-- what was read is the message in bytes that the reader takes
+pub decoded : (n : ℕ) (l : List ℕ) (m : Message) → decode n l ≡ some m → (readNumber n l ≡ 0) × (messageFrom n (words l) ≡ m)
 unfolding decode
-written-again n l m whole h = on (eqb (readNumber n l) 0)
-    (λ e. let q : some (messageFrom n (words l)) ≡ some m = rw e at h in
-    let p : messageFrom n (words l) ≡ m = cc in
-    ap (encode n) (sym p) ∙ again n l whole (readable n l (eqb-true (readNumber n l) 0 e)))
+decoded n l m h = on (eqb (readNumber n l) 0)
+    (λ e. let q : some (messageFrom n (words l)) ≡ some m = rw e at h in (eqb-true (readNumber n l) 0 e, cc))
     (λ e. let q : _≡_ {A = Option Message} none (some m) = rw e at h in
     let z : _≡_ {A = ℕ} 0 1 = cc in
     absurd (omega arith))
+
+-- THE SECOND ROUND TRIP: bytes that were accepted, written again, are the same bytes.
+pub written-again : (n : ℕ) (l : List ℕ) (m : Message) → Bytes l → decode n l ≡ some m → encode n m ≡ l
+written-again n l m whole h =
+    let d = decoded n l m h in
+    ap (encode n) (sym (d .1)) ∙ again n l whole (readable n l (d .0))

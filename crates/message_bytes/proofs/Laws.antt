@@ -61,12 +61,21 @@ pub row-written : (m : List Row) (n j a : ℕ) (w : ℕ → ℕ) → n ≤ 12 �
     ≡ pasted a ((j + 1) * n * 4) (byteIn (matrixWord n (matrixIn m))) w
 unfolding from
 row-written m n j a w h p =
-    pasted-join a (j * n * 4) (n * 4) (byteIn (matrixWord n (matrixIn m))) (byteIn (words (getD m j noRow .counts))) w
-    (λ i q. let r : i / 4 < n = omega arith in
-    byteIn-same (words (getD m j noRow .counts)) (from (matrixWord n (matrixIn m)) (j * n)) i
-    (sym (matrixWord-at n (matrixIn m) j (i / 4) r ∙ ap (λ r. r (i / 4 + 1)) (row-at m j (omega arith)) ∙ count-at (getD m j noRow) (i / 4) (omega arith)))
-    ∙ sym (byteIn-from (matrixWord n (matrixIn m)) (j * n) i))
-    ∙ ap (λ k. pasted a k (byteIn (matrixWord n (matrixIn m))) w) (let s : j * n * 4 + n * 4 ≡ (j + 1) * n * 4 = omega (arith, row-next n j) in s)
+    pasted-join a (j * n * 4) (n * 4) (byteIn held) (byteIn row) w
+    (λ i q. byteIn-same row (from held (j * n)) i (sym (same (i / 4) (omega arith))) ∙ sym (byteIn-from held (j * n) i))
+    ∙ ap (λ k. pasted a k (byteIn held) w) (let s : j * n * 4 + n * 4 ≡ (j + 1) * n * 4 = omega (arith, row-next n j) in s)
+  where
+    held : ℕ → ℕ
+    held = matrixWord n (matrixIn m)
+
+    row : ℕ → ℕ
+    row = words (getD m j noRow .counts)
+
+    same : (i : ℕ) → i < n → held (j * n + i) ≡ row i
+    same i q =
+        matrixWord-at n (matrixIn m) j i q
+        ∙ ap (λ r. r (i + 1)) (row-at m j (omega arith))
+        ∙ count-at (getD m j noRow) i (omega arith)
 
 -- A record written part by part: its three bytes, its count, its value, its matrix.
 module _ (n : ℕ) (r : Record) where
@@ -75,7 +84,10 @@ module _ (n : ℕ) (r : Record) where
 
   first-bytes : (i : ℕ) → i < 3 → words (r .member ∷ r .slot ∷ r .operation ∷ []) i ≡ recordByte held i
   unfolding held recordIn
-  first-bytes i h = sym (byte-first held i h ∙ head-words n (recordIn r) i (omega arith) ∙ List·getD-append (r .member ∷ r .slot ∷ r .operation ∷ []) (r .count ∷ []) 0 i h)
+  first-bytes i h =
+      sym (byte-first held i h
+      ∙ head-words n (recordIn r) i (omega arith)
+      ∙ List·getD-append (r .member ∷ r .slot ∷ r .operation ∷ []) (r .count ∷ []) 0 i h)
 
   count-bytes : (i : ℕ) → i < 4 → words (numberBytes (r .count)) i ≡ recordByte held (3 + i)
   unfolding held recordIn from
@@ -90,7 +102,8 @@ module _ (n : ℕ) (r : Record) where
   value-bytes : (i : ℕ) → i < 32 → byteIn (words (r .value)) i ≡ recordByte held (7 + i)
   unfolding held recordIn
   value-bytes i h =
-      byteIn-same (words (r .value)) (from held 4) i (sym (value-words n (recordIn r) (i / 4) (omega arith) ∙ valueOf-at (words (r .value)) (i / 4) (omega arith)))
+      let e = value-words n (recordIn r) (i / 4) (omega arith) ∙ valueOf-at (words (r .value)) (i / 4) (omega arith) in
+      byteIn-same (words (r .value)) (from held 4) i (sym e)
       ∙ sym (byte-further held 1 i)
       ∙ ap (recordByte held) (let e : 3 + (1 * 4 + i) ≡ 7 + i = omega arith in e)
 

@@ -1,6 +1,6 @@
 // Numbers and records in a message's bytes, big-endian. Each function asks what its callers prove.
 ghost use mathlib.Core.Path.{_≡_};
-ghost use Prim.Native.Nat.{_+_, _*_, _≤_, _<_};
+ghost use Prim.Native.Nat.{_+_, _*_, _≤_};
 ghost use lib.ListN.{length};
 ghost use Rattle.lists.specs.Functions.{from, pasted};
 ghost use Rattle.lists.specs.Parts.{words};
@@ -8,6 +8,7 @@ ghost use Rattle.model.specs.RecordWords.{rowOf, matrixOf, valueOf, matrixWord,
 ghost use Rattle.model.specs.Messages.{numberBytes, numberOf, byteIn, numberIn, recordByte, recordLength, recordFrom};
 ghost use Rattle.rows.specs.Meaning.{rowIn, matrixIn};
 ghost use Rattle.records.specs.Meaning.{recordIn};
+ghost use Rattle.message_bytes.specs.Needs.{InBytes};
 use records::Record;
 use rows::Row;
 
@@ -17,6 +18,17 @@ const COUNT_AT: usize = 3;
 const VALUE_AT: usize = 7;
 
 const MATRIX_AT: usize = 39;
+
+// Where the record begins in a message that has one.
+pub const RECORD_AT: usize = 5;
+
+// Where the second record of a reply begins.
+pub fn second_at(n: usize) -> usize
+    requires { ⌜ n ≤ 12 ⌝ }
+    ensures { λ r. ⌜ r ≡ 5 + recordLength n ⌝ }
+{
+    RECORD_AT + MATRIX_AT + 4 * (n * n)
+}
 
 pub fn wide(x: u8) -> u32
     ensures { λ r. ⌜ r ≡ x ⌝ }
@@ -159,8 +171,9 @@ fn write_matrix(t: &mut [u8], at: usize, n: usize, matrix: [Row; 12])
 
 // The record written to the bytes from `at` on.
 pub fn write_record(t: &mut [u8], at: usize, n: usize, r: Record)
-    requires { ⌜ (n ≤ 12) × ((at + recordLength n ≤ length (now t)) × ((r .member < 256) × ((r .slot < 256) × (r .operation < 256)))) ⌝ }
-    ensures { λ _. ⌜ words (now (t .exit)) ≡ pasted at (recordLength n) (recordByte (words (recordWords n (recordIn r)))) (words (now (t .entry))) ⌝ }
+    requires { ⌜ (n ≤ 12) × ((at + recordLength n ≤ length (now t)) × InBytes r) ⌝ }
+    ensures { λ _. ⌜ words (now (t .exit))
+        ≡ pasted at (recordLength n) (recordByte (words (recordWords n (recordIn r)))) (words (now (t .entry))) ⌝ }
 {
     t[at] = r.member as u8;
     t[at + 1] = r.slot as u8;

@@ -7,6 +7,8 @@ ghost use Rattle.lists.specs.Functions.{inside};
 ghost use Rattle.lists.specs.Parts.{words};
 ghost use Rattle.model.specs.Kinds.{isOperation};
 ghost use Rattle.model.specs.Messages.{lengthOf, messageFrom, fitMessage, rightN, readNumber};
+use message_bytes::steps::RECORD_AT;
+use message_bytes::steps::second_at;
 use message_bytes::steps::wide;
 use records::is_fit;
 use records::is_numbered;
@@ -26,14 +28,15 @@ pub const OUTCOME: u32 = 4;
 // Are the three bytes from `at` on a member, a slot and a type?
 fn fields_at(s: &[u8], at: usize, n: u32) -> bool
     requires { ⌜ at + 3 ≤ length (now s) ⌝ }
-    ensures { λ r. ⌜ r ≡ (inside n (words (now (s .entry)) at) && inside n (words (now (s .entry)) (at + 1)) && isOperation (words (now (s .entry)) (at + 2))) ⌝ }
+    ensures { λ r. ⌜ (let b = words (now (s .entry)) in r ≡ (inside n (b at) && inside n (b (at + 1)) && isOperation (b (at + 2)))) ⌝ }
 {
     is_fit(wide(s[at]), wide(s[at + 1]), wide(s[at + 2]), n)
 }
 
 // Are the fields of a message of the right length as number 15 wants them? No count and no matrix is looked at.
 fn fields_fit(s: &[u8], n: u32) -> bool
-    requires { ⌜ (1 ≤ n) × ((n ≤ 12) × ((inside 4 (words (now s) 3) ≡ true) × (length (now s) ≡ 2 + lengthOf (words (now s) 3) n))) ⌝ }
+    requires { ⌜ (1 ≤ n)
+        × ((n ≤ 12) × ((inside 4 (words (now s) 3) ≡ true) × (length (now s) ≡ 2 + lengthOf (words (now s) 3) n))) ⌝ }
     ensures { λ r. ⌜ r ≡ (rightN n (words (now (s .entry))) && fitMessage n (messageFrom n (words (now (s .entry))))) ⌝ }
 {
     let kind = wide(s[3]);
@@ -48,13 +51,12 @@ fn fields_fit(s: &[u8], n: u32) -> bool
         return false;
     }
     if kind == COMMIT {
-        return fields_at(s, 5, n);
+        return fields_at(s, RECORD_AT, n);
     }
-    if !fields_at(s, 5, n) {
+    if !fields_at(s, RECORD_AT, n) {
         return false;
     }
-    let size = n as usize;
-    fields_at(s, 44 + 4 * (size * size), n)
+    fields_at(s, second_at(n as usize), n)
 }
 
 fn length_field(a: u8, b: u8) -> usize

@@ -1,24 +1,25 @@
 -- What is said once of messages by value and in bytes.
-use Prim.Native.Nat.{ℕ, _+_, _*_, _≤_}
-use mathlib.Core.Path.{_≡_, refl, sym, ap, _∙_}
+use Prim.Native.Nat.{ℕ, _+_, _≤_}
+use mathlib.Core.Path.{_≡_, sym, ap, _∙_}
 use mathlib.Core.Bool.{true}
-use mathlib.Core.List.{List, [], _∷_, _++_}
+use mathlib.Core.List.{List, _++_}
 use mathlib.Core.Option.{none, some}
 use lib.Dec.{eqb}
-use borrow.Author.Tests.{ne-eqb, eqb-true, eqb-false}
+use borrow.Author.Tests.{ne-eqb}
 use native.Mathlib.Omega.{arith}
-use lib.ListN.{length, set, drop, length-append, List·getD-append}
+use lib.ListN.{length, length-append, List·getD-append}
 use lib.Seq.{getD-append-add}
 use Rattle.lists.specs.Functions.{pasted, inside}
 use Rattle.lists.specs.Parts.{words}
-use Rattle.lists.proofs.Functions.{on, apart, inside-in, inside-low, inside-high, pasted-join, pasted-same}
+use Rattle.lists.proofs.Functions.{apart, inside-in, inside-low, inside-high, pasted-join, pasted-same}
 use Rattle.lists.proofs.Parts.{tabulate-at, replaced-by}
 use Rattle.model.specs.RecordWords.{recordWords}
 use Rattle.model.specs.Records.{Rec}
-use Rattle.model.specs.Messages.{Message, submit, reply, commit, outcome, kindOf, lengthOf, numberBytes, recordByte, recordLength, recordBytes, encode, fitMessage, fitGiven, writtenLength, writeNumber, writtenTo}
-use Rattle.laws.proofs.Messages.{length-recordBytes, length-encode, heading, reply-parts, commit-parts, writable-of}
+use Rattle.model.specs.Messages.{Message, submit, reply, commit, outcome, kindOf, lengthOf, recordByte, recordLength}
+use Rattle.model.specs.Messages.{recordBytes, encode, fitMessage, fitGiven, writtenLength, writeNumber, writtenTo}
+use Rattle.laws.proofs.Messages.{Writable, by-kind, length-recordBytes, length-encode, writable-of}
 use Rattle.message_bytes.proofs.Laws.{stored}
-use Rattle.messages.specs.Meaning.{Fields, messageOf}
+use Rattle.messages.specs.Meaning.{Fields, Fronted, messageOf}
 
 -- Runs of bytes one after the other, and a list whose front was written.
 
@@ -40,65 +41,19 @@ record-bytes n a r w =
     (λ i h. sym (tabulate-at (recordLength n) (recordByte (words (recordWords n r))) i h))
     ∙ ap (λ k. pasted a k (words (recordBytes n r)) w) (sym (length-recordBytes n r))
 
-pub front : (l m p : List ℕ) → length m ≡ length l → length p ≤ length l → words m ≡ pasted 0 (length p) (words p) (words l)
-    → m ≡ p ++ drop (length p) l
-front l m p same fits h = replaced-by l m 0 p (omega arith) same h
+pub fronted-same : {p q : List ℕ} (l t : List ℕ) → p ≡ q → Fronted p l t → Fronted q l t
+fronted-same l t e h = h ∙ ap (λ p. pasted 0 (length p) (words p) (words l)) e
 
--- A message written kind by kind.
+-- more bytes written behind those at the front, and a record
+pub fronted-more : (p q l t u : List ℕ) (k : ℕ) → k ≡ length p → Fronted p l t → words u ≡ pasted k (length q) (words q) (words t)
+    → Fronted (p ++ q) l u
+fronted-more p q l t u k e f h = h ∙ ap (pasted k (length q) (words q)) f ∙ pasted-append p q k (words l) e
 
-pub submit-written : (member slot operation count : ℕ) (l t u : List ℕ) → 11 ≤ length l → length t ≡ length l
-    → words t ≡ pasted 0 5 (words (0 ∷ 9 ∷ 1 ∷ 1 ∷ member ∷ [])) (words l)
-    → words u ≡ pasted 7 4 (words (numberBytes count)) (words (set (set t 5 slot) 6 operation))
-    → words u ≡ pasted 0 11 (words (0 ∷ 9 ∷ 1 ∷ 1 ∷ member ∷ slot ∷ operation ∷ numberBytes count)) (words l)
-unfolding numberBytes
-submit-written member slot operation count l t u fits same p q =
-    q
-    ∙ ap (pasted 7 4 (words (numberBytes count))) (stored t 5 slot (operation ∷ []) (omega arith)
-    ∙ ap (pasted 5 2 (words (slot ∷ operation ∷ []))) p
-    ∙ pasted-append (0 ∷ 9 ∷ 1 ∷ 1 ∷ member ∷ []) (slot ∷ operation ∷ []) 5 (words l) refl)
-    ∙ pasted-append (0 ∷ 9 ∷ 1 ∷ 1 ∷ member ∷ slot ∷ operation ∷ []) (numberBytes count) 7 (words l) refl
-
-pub commit-written : (n : ℕ) (r : Rec) (l t u : List ℕ)
-    → words t ≡ pasted 0 5 (words (heading (lengthOf 3 n) 3 n)) (words l)
-    → words u ≡ pasted 5 (recordLength n) (recordByte (words (recordWords n r))) (words t)
-    → words u ≡ pasted 0 (length (encode n (commit r))) (words (encode n (commit r))) (words l)
-commit-written n r l t u p q =
-    q
-    ∙ record-bytes n 5 r (words t)
-    ∙ ap (pasted 5 (length (recordBytes n r)) (words (recordBytes n r))) p
-    ∙ pasted-append (heading (lengthOf 3 n) 3 n) (recordBytes n r) 5 (words l) refl
-    ∙ ap (λ p. pasted 0 (length p) (words p) (words l)) (sym (commit-parts n r))
-
-pub reply-written : (n : ℕ) (a b : Rec) (l t u v : List ℕ)
-    → words t ≡ pasted 0 5 (words (heading (lengthOf 2 n) 2 n)) (words l)
-    → words u ≡ pasted 5 (recordLength n) (recordByte (words (recordWords n a))) (words t)
-    → words v ≡ pasted (44 + 4 * (n * n)) (recordLength n) (recordByte (words (recordWords n b))) (words u)
-    → words v ≡ pasted 0 (length (encode n (reply a b))) (words (encode n (reply a b))) (words l)
-unfolding recordLength
-reply-written n a b l t u v p q e =
-    let h = heading (lengthOf 2 n) 2 n in
-    let first = recordBytes n a in
-    let second = recordBytes n b in
-    let d : 44 + 4 * (n * n) ≡ length (h ++ first) = omega (arith, length-recordBytes n a) in
-    e
-    ∙ record-bytes n (44 + 4 * (n * n)) b (words u)
-    ∙ ap (pasted (44 + 4 * (n * n)) (length second) (words second)) (q
-    ∙ record-bytes n 5 a (words t)
-    ∙ ap (pasted 5 (length first) (words first)) p
-    ∙ pasted-append h first 5 (words l) refl)
-    ∙ pasted-append (h ++ first) second (44 + 4 * (n * n)) (words l) d
-    ∙ ap (λ p. pasted 0 (length p) (words p) (words l)) (sym (reply-parts n a b))
+pub fronted-record : (n : ℕ) (p : List ℕ) (r : Rec) (l t u : List ℕ) (k : ℕ) → k ≡ length p → Fronted p l t
+    → words u ≡ pasted k (recordLength n) (recordByte (words (recordWords n r))) (words t) → Fronted (p ++ recordBytes n r) l u
+fronted-record n p r l t u k e f h = fronted-more p (recordBytes n r) l t u k e f (h ∙ record-bytes n k r (words t))
 
 -- The message that the writer is handed, by its kind.
-
-pub by-kind : {B : Type 0} (k : ℕ) → (k ≡ 1 → B) → (k ≡ 2 → B) → (k ≡ 3 → B) → (k ≡ 4 → B)
-    → ((k ≡ 1 → ⊥) → (k ≡ 2 → ⊥) → (k ≡ 3 → ⊥) → (k ≡ 4 → ⊥) → B) → B
-by-kind k a b c d other =
-    on (eqb k 1) (λ p. a (eqb-true k 1 p)) (λ p.
-    on (eqb k 2) (λ q. b (eqb-true k 2 q)) (λ q.
-    on (eqb k 3) (λ r. c (eqb-true k 3 r)) (λ r.
-    on (eqb k 4) (λ s. d (eqb-true k 4 s)) (λ s.
-    other (eqb-false k 1 p) (eqb-false k 2 q) (eqb-false k 3 r) (eqb-false k 4 s)))))
 
 module _ (f : Fields) where
   is : (a b : ℕ) → f .kind ≡ a → eqb (f .kind) b ≡ eqb a b
@@ -146,19 +101,31 @@ module _ (f : Fields) where
       said : (m : Message) → messageOf f ≡ some m → f .kind ≡ kindOf m → writtenLength n (messageOf f) ≡ 2 + lengthOf (f .kind) n
       said m e k = ap (writtenLength n) e ∙ length-encode n m ∙ ap (λ k. 2 + lengthOf k n) (sym k)
 
-  -- what the writer's number 0 says of the kind: its fields fit, and there is room
-  pub given-fit : (n : ℕ) (m : Message) (room : ℕ) → messageOf f ≡ some m → writeNumber n (messageOf f) room ≡ 0 → fitMessage n m ≡ true
+-- A message that the writer takes, and an output l: its fields fit, there is room, and what is then written is the definition's.
+module _ (f : Fields) (n : ℕ) (l : List ℕ) (h : writeNumber n (messageOf f) (length l) ≡ 0) where
+  pub taken : Writable n (messageOf f) (length l)
+  taken = writable-of n (messageOf f) (length l) h
+
+  pub taken-low : 1 ≤ n
+  taken-low = inside-low 12 n (taken .size)
+
+  pub taken-high : n ≤ 12
+  taken-high = inside-high 12 n (taken .size)
+
+  pub taken-kind : inside 4 (f .kind) ≡ true
+  taken-kind = given-kind f n (taken .fit)
+
+  pub taken-fit : (m : Message) → messageOf f ≡ some m → fitMessage n m ≡ true
   unfolding fitGiven
-  given-fit n m room e h = sym (ap (fitGiven n) e) ∙ writable-of n (messageOf f) room h .1 .0
+  taken-fit m e = sym (ap (fitGiven n) e) ∙ taken .fit
 
-  pub given-room : (n k room : ℕ) → f .kind ≡ k → writeNumber n (messageOf f) room ≡ 0 → 2 + lengthOf k n ≤ room
-  given-room n k room e h =
-      let w = writable-of n (messageOf f) room h in
-      rw (given-length n (given-kind n (w .1 .0)) ∙ ap (λ k. 2 + lengthOf k n) e) at (w .1 .1)
+  pub taken-room : (k : ℕ) → f .kind ≡ k → 2 + lengthOf k n ≤ length l
+  taken-room k e = rw (given-length f n taken-kind ∙ ap (λ k. 2 + lengthOf k n) e) at (taken .long)
 
-  pub wrote : (n : ℕ) (m : Message) (l t : List ℕ) → messageOf f ≡ some m → writeNumber n (messageOf f) (length l) ≡ 0 → length t ≡ length l
-      → words t ≡ pasted 0 (length (encode n m)) (words (encode n m)) (words l) → t ≡ writtenTo n (messageOf f) l
+  pub wrote : (m : Message) (t : List ℕ) → messageOf f ≡ some m → length t ≡ length l → Fronted (encode n m) l t
+      → t ≡ writtenTo n (messageOf f) l
   unfolding writtenTo writtenLength
-  wrote n m l t e h same w =
-      front l t (encode n m) same (rw (ap (writtenLength n) e) at (writable-of n (messageOf f) (length l) h .1 .1)) w
+  wrote m t e same w =
+      let long = rw (ap (writtenLength n) e) at (taken .long) in
+      replaced-by l t 0 (encode n m) (omega arith) same w
       ∙ sym (ap (λ m. writtenTo n m l) e)

@@ -5,7 +5,7 @@ use native.Mathlib.Omega.{arith}
 use mathlib.Core.Path.{_≡_, refl, sym, ap, _∙_}
 use mathlib.Core.Bool.{true, _&&_}
 use mathlib.Core.List.{List, _++_}
-use mathlib.Core.Option.{Option, none, some}
+use mathlib.Core.Option.{Option, some}
 use lib.Dec.{eqb, ltb}
 use lib.ListN.{length, take, drop}
 use lib.Seq.{take-at}
@@ -18,68 +18,16 @@ use Rattle.model.specs.Records.{recordWithin}
 use Rattle.model.specs.RecordWords.{recordWords, matrixWord}
 use Rattle.model.specs.Kinds.{isOperation}
 use Rattle.model.specs.Halves.{fitRecord}
-use Rattle.model.specs.Messages.{
-  Message,
-  submit,
-  reply,
-  commit,
-  outcome,
-  lengthOf,
-  numberBytes,
-  byteIn,
-  headed,
-  recordByte,
-  recordWord,
-  recordLength,
-  recordBytes,
-  recordFrom,
-  encode,
-  messageFrom,
-  fitMessage,
-  readNumber,
-  decode,
-  fitGiven,
-  writtenLength,
-  writeNumber,
-  writable,
-  writtenTo,
-  smallRecord,
-  small,
-  fits,
-  Bytes,
-  messageWithin,
-}
+use Rattle.model.specs.Messages.{Message, submit, reply, commit, outcome, lengthOf, numberBytes, byteIn, headed, recordByte, recordWord}
+use Rattle.model.specs.Messages.{recordLength, recordBytes, recordFrom, encode, messageFrom, fitMessage, readNumber, decode, fitGiven}
+use Rattle.model.specs.Messages.{writtenLength, writeNumber, writable, writtenTo, smallRecord, small, fits, Bytes, messageWithin}
 use Rattle.laws.proofs.Records.{within-read}
-use Rattle.laws.proofs.Messages.{
-  Readable,
-  readable,
-  writable-of,
-  from-submit,
-  from-reply,
-  from-commit,
-  from-outcome,
-  submit-parts,
-  reply-parts,
-  commit-parts,
-  outcome-parts,
-  read-back,
-  written-again,
-}
+use Rattle.laws.proofs.Messages.{Readable, readable, by-kind, decoded, writable-of, from-submit, from-reply, from-commit, from-outcome}
+use Rattle.laws.proofs.Messages.{submit-parts, reply-parts, commit-parts, outcome-parts, read-back, written-again}
 use Rattle.messages.specs.Meaning.{Fields, fieldsOf, messageOf, fieldsRead, numberWritten}
-use Rattle.messages.specs.RoundTrip.{
-  sent,
-  fieldsWithin,
-  smallFields,
-  ReadBack,
-  WrittenAgain,
-  exampleRecord,
-  example,
-  room,
-  exampleBytes,
-  Case,
-  RoundTrip,
-}
-use Rattle.messages.proofs.Laws.{by-kind, given-submit, given-reply, given-commit, given-outcome, given-none}
+use Rattle.messages.specs.RoundTrip.{sent, fieldsWithin, smallFields, ReadBack, WrittenAgain}
+use Rattle.messages.specs.RoundTrip.{exampleRecord, example, room, exampleBytes, Case, RoundTrip}
+use Rattle.messages.proofs.Laws.{given-submit, given-reply, given-commit, given-outcome, given-none}
 use Rattle.messages.proofs.WrittenBytes.{bytes-encode}
 
 -- Fields and messages.
@@ -149,26 +97,19 @@ sent-is n f out m e h =
     ap (λ o. take (writtenLength n o) (writtenTo n o out)) (took n (messageOf f) (length out) h ∙ e)
     ∙ take-at (encode n m) (drop (length (encode n m)) out) (length (encode n m)) refl
 
-accepted : (n : ℕ) (l : List ℕ) (m : Message) → decode n l ≡ some m → readNumber n l ≡ 0
-unfolding decode
-accepted n l m h = on (eqb (readNumber n l) 0) (eqb-true (readNumber n l) 0)
-    (λ e. let q : _≡_ {A = Option Message} none (some m) = rw e at h in
-    let z : _≡_ {A = ℕ} 0 1 = cc in
-    absurd (omega arith))
-
 back : (n : ℕ) (f : Fields) (out : List ℕ) → smallFields n f ≡ true → numberWritten n f out ≡ 0 → ReadBack n f out
 unfolding fits fitGiven
 back n f out s h =
     let w = writable-of n (messageOf f) (length out) h in
-    let g = handed n f s (w .1 .0) in
+    let g = handed n f s (w .fit) in
     let m = g .message in
-    let fit : fitMessage n m ≡ true = sym (ap (fitGiven n) (g .given)) ∙ w .1 .0 in
-    let high = inside-high 12 n (w .0) in
-    let d : decode n (encode n m) ≡ some (messageWithin n m) = read-back n m (inside-low 12 n (w .0)) high (both fit (g .little)) in
+    let fit : fitMessage n m ≡ true = sym (ap (fitGiven n) (g .given)) ∙ w .fit in
+    let high = inside-high 12 n (w .size) in
+    let d : decode n (encode n m) ≡ some (messageWithin n m) = read-back n m (inside-low 12 n (w .size)) high (both fit (g .little)) in
     let e = sent-is n f out m (g .given) h in
     record {
       bytes = rw e (bytes-encode n m high fit);
-      number = ap (readNumber n) e ∙ accepted n (encode n m) (messageWithin n m) d;
+      number = ap (readNumber n) e ∙ decoded n (encode n m) (messageWithin n m) d .0;
       fields = ap (fieldsRead n) e ∙ ap fieldsOf d ∙ g .cut;
     }
 

@@ -13,24 +13,8 @@ use Rattle.lists.proofs.Parts.{tabulate-at, tabulate-past}
 use Rattle.model.specs.Records.{Rec}
 use Rattle.model.specs.RecordWords.{recordWords}
 use Rattle.model.specs.Halves.{fitRecord}
-use Rattle.model.specs.Messages.{
-  Message,
-  submit,
-  reply,
-  commit,
-  outcome,
-  kindOf,
-  lengthOf,
-  numberBytes,
-  byteIn,
-  recordByte,
-  recordLength,
-  recordBytes,
-  fieldBytes,
-  encode,
-  fitMessage,
-  Bytes,
-}
+use Rattle.model.specs.Messages.{Message, submit, reply, commit, outcome, kindOf, lengthOf, numberBytes, byteIn}
+use Rattle.model.specs.Messages.{recordByte, recordLength, recordBytes, fieldBytes, encode, fitMessage, Bytes}
 use Rattle.laws.proofs.Records.{head-words}
 use Rattle.laws.proofs.Messages.{byte-first, byte-further, lengthOf-most, fit-small, encode-parts}
 

@@ -1,10 +1,13 @@
 -- What a message held by value stands for: the struct's fields but its number, which the reader sets and the writer does not look at.
 use Prim.Native.Nat.{ℕ}
+use mathlib.Core.Path.{_≡_}
 use mathlib.Core.Bool.{cond}
 use mathlib.Core.List.{List}
 use mathlib.Core.Option.{Option, none, some}
 use lib.Dec.{eqb}
 use lib.ListN.{length}
+use Rattle.lists.specs.Functions.{pasted}
+use Rattle.lists.specs.Parts.{words}
 use Rattle.model.specs.Records.{Rec, zeroRecord}
 use Rattle.model.specs.Messages.{Message, submit, reply, commit, outcome, decode, writtenLength, writeNumber, writable, writtenTo}
 use Rattle.records.specs.Meaning.{recordIn}
@@ -93,6 +96,14 @@ messageOf f =
     (cond (eqb (f .kind) 3) (some (commit (f .newest)))
     (cond (eqb (f .kind) 4) (some (outcome (f .result)))
     none)))
+
+-- What the steps of the reader and the writer leave. A struct that no number refuses, and that holds the message m:
+abbrev pub Holds : MessageStruct → Message → Type 0
+Holds r m = (r .number ≡ 0) × (fieldsIn r ≡ fieldsOf (some m))
+
+-- The bytes p at the front of a list, the others as they were:
+abbrev pub Fronted : List ℕ → List ℕ → List ℕ → Type 0
+Fronted p before after = words after ≡ pasted 0 (length p) (words p) (words before)
 
 -- What the calls answer on a board of n. `read` of the bytes l: `readNumber n l`, and these fields.
 abbrev pub fieldsRead : ℕ → List ℕ → Fields

@@ -1,15 +1,16 @@
 // The reader's step by the kind, for bytes that no number refuses.
 ghost use mathlib.Core.Path.{_≡_};
-ghost use mathlib.Core.Option.{some};
 ghost use Prim.Native.Nat.{_+_, _≤_};
 ghost use lib.ListN.{length};
 ghost use Rattle.lists.specs.Functions.{from};
 ghost use Rattle.lists.specs.Parts.{words};
 ghost use Rattle.model.specs.Messages.{submit, reply, commit, numberOf, recordLength, recordFrom, messageFrom, readNumber};
-ghost use Rattle.messages.specs.Meaning.{fieldsIn, fieldsOf};
+ghost use Rattle.messages.specs.Meaning.{Holds};
 use crate::Message;
+use message_bytes::steps::RECORD_AT;
 use message_bytes::steps::read_number;
 use message_bytes::steps::read_record;
+use message_bytes::steps::second_at;
 use message_bytes::steps::wide;
 use message_numbers::COMMIT;
 use message_numbers::OUTCOME;
@@ -19,7 +20,7 @@ use records::Record;
 
 fn read_submit(s: &[u8]) -> Message
     requires { ⌜ 11 ≤ length (now s) ⌝ }
-    ensures { λ r. ⌜ (r .number ≡ 0) × (fieldsIn r ≡ fieldsOf (some (submit (words (now (s .entry)) 4) (words (now (s .entry)) 5) (words (now (s .entry)) 6) (numberOf (from (words (now (s .entry))) 7))))) ⌝ }
+    ensures { λ r. ⌜ (let b = words (now (s .entry)) in Holds r (submit (b 4) (b 5) (b 6) (numberOf (from b 7)))) ⌝ }
 {
     let mut m = Message::refused(0);
     m.kind = SUBMIT;
@@ -32,10 +33,11 @@ fn read_submit(s: &[u8]) -> Message
 
 fn read_reply(s: &[u8], n: usize) -> Message
     requires { ⌜ (n ≤ 12) × (5 + recordLength n + recordLength n ≤ length (now s)) ⌝ }
-    ensures { λ r. ⌜ (r .number ≡ 0) × (fieldsIn r ≡ fieldsOf (some (reply (recordFrom n (from (words (now (s .entry))) 5)) (recordFrom n (from (words (now (s .entry))) (5 + recordLength n)))))) ⌝ }
+    ensures { λ r. ⌜ (let b = words (now (s .entry)) in
+        Holds r (reply (recordFrom n (from b 5)) (recordFrom n (from b (5 + recordLength n))))) ⌝ }
 {
-    let newest = read_record(s, 5, n);
-    let stored = read_record(s, 44 + 4 * (n * n), n);
+    let newest = read_record(s, RECORD_AT, n);
+    let stored = read_record(s, second_at(n), n);
     Message {
         number: 0,
         kind: REPLY,
@@ -51,9 +53,9 @@ fn read_reply(s: &[u8], n: usize) -> Message
 
 fn read_commit(s: &[u8], n: usize) -> Message
     requires { ⌜ (n ≤ 12) × (5 + recordLength n ≤ length (now s)) ⌝ }
-    ensures { λ r. ⌜ (r .number ≡ 0) × (fieldsIn r ≡ fieldsOf (some (commit (recordFrom n (from (words (now (s .entry))) 5))))) ⌝ }
+    ensures { λ r. ⌜ Holds r (commit (recordFrom n (from (words (now (s .entry))) 5))) ⌝ }
 {
-    let newest = read_record(s, 5, n);
+    let newest = read_record(s, RECORD_AT, n);
     let stored = Record::zero();
     Message {
         number: 0,
@@ -70,7 +72,7 @@ fn read_commit(s: &[u8], n: usize) -> Message
 
 pub fn read_message(s: &[u8], n: usize) -> Message
     requires { ⌜ readNumber n (now s) ≡ 0 ⌝ }
-    ensures { λ r. ⌜ (r .number ≡ 0) × (fieldsIn r ≡ fieldsOf (some (messageFrom n (words (now (s .entry)))))) ⌝ }
+    ensures { λ r. ⌜ Holds r (messageFrom n (words (now (s .entry)))) ⌝ }
 {
     let kind = wide(s[3]);
     if kind == SUBMIT {

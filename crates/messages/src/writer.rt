@@ -3,12 +3,13 @@ ghost use mathlib.Core.Path.{_≡_};
 ghost use mathlib.Core.List.{[], _∷_};
 ghost use Prim.Native.Nat.{_+_, _/_, _%_, _≤_, _<_};
 ghost use lib.ListN.{length};
-ghost use Rattle.lists.specs.Functions.{pasted};
-ghost use Rattle.lists.specs.Parts.{words};
 ghost use Rattle.model.specs.Messages.{reply, commit, numberBytes, recordLength, encode, writeNumber, writtenTo};
 ghost use Rattle.records.specs.Meaning.{recordIn};
-ghost use Rattle.messages.specs.Meaning.{fieldsIn, messageOf};
+ghost use Rattle.message_bytes.specs.Needs.{InBytes};
+ghost use Rattle.messages.specs.Meaning.{Fronted, fieldsIn, messageOf};
 use crate::Message;
+use message_bytes::steps::RECORD_AT;
+use message_bytes::steps::second_at;
 use message_bytes::steps::write_number;
 use message_bytes::steps::write_record;
 use message_numbers::COMMIT;
@@ -21,7 +22,7 @@ use records::Record;
 // The first five bytes: length, version, kind, and what stands first in the kind's fields.
 fn write_heading(t: &mut [u8], size: usize, kind: u8, fifth: u8)
     requires { ⌜ (5 ≤ length (now t)) × (size < 65536) ⌝ }
-    ensures { λ _. ⌜ words (now (t .exit)) ≡ pasted 0 5 (words (size / 256 ∷ size % 256 ∷ 1 ∷ kind ∷ fifth ∷ [])) (words (now (t .entry))) ⌝ }
+    ensures { λ _. ⌜ Fronted (size / 256 ∷ size % 256 ∷ 1 ∷ kind ∷ fifth ∷ []) (now (t .entry)) (now (t .exit)) ⌝ }
 {
     t[0] = (size / 256) as u8;
     t[1] = (size % 256) as u8;
@@ -32,7 +33,7 @@ fn write_heading(t: &mut [u8], size: usize, kind: u8, fifth: u8)
 
 fn write_submit(t: &mut [u8], member: u32, slot: u32, operation: u32, count: u32)
     requires { ⌜ (11 ≤ length (now t)) × ((member < 256) × ((slot < 256) × (operation < 256))) ⌝ }
-    ensures { λ _. ⌜ words (now (t .exit)) ≡ pasted 0 11 (words (0 ∷ 9 ∷ 1 ∷ 1 ∷ member ∷ slot ∷ operation ∷ numberBytes count)) (words (now (t .entry))) ⌝ }
+    ensures { λ _. ⌜ Fronted (0 ∷ 9 ∷ 1 ∷ 1 ∷ member ∷ slot ∷ operation ∷ numberBytes count) (now (t .entry)) (now (t .exit)) ⌝ }
 {
     write_heading(t, 9, 1, member as u8);
     t[5] = slot as u8;
@@ -41,21 +42,21 @@ fn write_submit(t: &mut [u8], member: u32, slot: u32, operation: u32, count: u32
 }
 
 fn write_commit(t: &mut [u8], n: u32, r: Record)
-    requires { ⌜ (1 ≤ n) × ((n ≤ 12) × ((5 + recordLength n ≤ length (now t)) × ((r .member < 256) × ((r .slot < 256) × (r .operation < 256))))) ⌝ }
-    ensures { λ _. ⌜ words (now (t .exit)) ≡ pasted 0 (length (encode n (commit (recordIn r)))) (words (encode n (commit (recordIn r)))) (words (now (t .entry))) ⌝ }
+    requires { ⌜ (1 ≤ n) × ((n ≤ 12) × ((5 + recordLength n ≤ length (now t)) × InBytes r)) ⌝ }
+    ensures { λ _. ⌜ Fronted (encode n (commit (recordIn r))) (now (t .entry)) (now (t .exit)) ⌝ }
 {
     write_heading(t, length_of(COMMIT, n), 3, n as u8);
-    write_record(t, 5, n as usize, r);
+    write_record(t, RECORD_AT, n as usize, r);
 }
 
 fn write_reply(t: &mut [u8], n: u32, newest: Record, stored: Record)
-    requires { ⌜ (1 ≤ n) × ((n ≤ 12) × ((5 + recordLength n + recordLength n ≤ length (now t)) × (((newest .member < 256) × ((newest .slot < 256) × (newest .operation < 256))) × ((stored .member < 256) × ((stored .slot < 256) × (stored .operation < 256)))))) ⌝ }
-    ensures { λ _. ⌜ words (now (t .exit)) ≡ pasted 0 (length (encode n (reply (recordIn newest) (recordIn stored)))) (words (encode n (reply (recordIn newest) (recordIn stored)))) (words (now (t .entry))) ⌝ }
+    requires { ⌜ (1 ≤ n) × ((n ≤ 12) × ((5 + recordLength n + recordLength n ≤ length (now t)) × (InBytes newest × InBytes stored))) ⌝ }
+    ensures { λ _. ⌜ Fronted (encode n (reply (recordIn newest) (recordIn stored))) (now (t .entry)) (now (t .exit)) ⌝ }
 {
     let size = n as usize;
     write_heading(t, length_of(REPLY, n), 2, n as u8);
-    write_record(t, 5, size, newest);
-    write_record(t, 44 + 4 * (size * size), size, stored);
+    write_record(t, RECORD_AT, size, newest);
+    write_record(t, second_at(size), size, stored);
 }
 
 pub fn write_message(t: &mut [u8], n: u32, message: Message)

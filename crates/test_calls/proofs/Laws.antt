@@ -122,5 +122,5 @@ encoded-small n (some m) h = omega (arith, length-encode n m, lengthOf-most (kin
 pub written-small : (n : ℕ) (m : Option Wire) (room : ℕ) → writtenLength n (writable n m room) ≤ 1235
 unfolding writable writtenLength
 written-small n m room = on (eqb (writeNumber n m room) 0)
-    (λ p. rw p (encoded-small n m (inside-high 12 n (writable-of n m room (eqb-true (writeNumber n m room) 0 p) .0))))
+    (λ p. rw p (encoded-small n m (inside-high 12 n (writable-of n m room (eqb-true (writeNumber n m room) 0 p) .size))))
     (λ p. rw p (omega arith))

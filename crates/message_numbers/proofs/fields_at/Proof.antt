@@ -1,10 +1,14 @@
--- `fields_at` meets its contract. Assumes nothing.
+-- `fields_at` meets its contract: the three bytes, made wide, are asked by `is_fit`.
 use borrow.Author.Needs.{needs}
 use Rattle.message_numbers.proofs.fields_at.Statement.{statement}
 use Rattle.message_numbers.proofs.fields_at.Tie as tie
 
 returns : tie.Need-returns
-returns c = rw (← c .before .before .before .before .before .wide .ensures, ← c .before .before .before .wide2 .ensures, ← c .before .wide3 .ensures) (c .is-fit .ensures)
+returns c =
+    let third = c .before in
+    let second = third .before .before in
+    let first = second .before .before in
+    rw (← first .wide .ensures, ← second .wide2 .ensures, ← third .wide3 .ensures) (c .is-fit .ensures)
 
 pub fields-at-spec : {M : Type 1} → statement M
 fields-at-spec =

@@ -1,125 +1,119 @@
--- `fields_fit` meets its contract: what is asked of each kind is said once, in the laws. Assumes nothing.
+-- `fields_fit` meets its contract: what is asked of each kind is said once, in the laws; here, the kind at each place and its length.
 use borrow.Author.Needs.{needs}
-use Prim.Native.Nat.{_+_, _*_}
+use Prim.Native.Nat.{ℕ, _+_, _≤_, _<_}
 use mathlib.Core.Path.{_≡_, sym, ap, _∙_}
+use mathlib.Core.Bool.{_&&_}
 use native.Mathlib.Omega.{arith}
-use borrow.Author.Tests.{not-true, not-false}
+use lib.ListN.{length}
 use Rattle.lists.specs.Functions.{inside}
 use Rattle.lists.specs.Parts.{words}
 use Rattle.lists.proofs.Functions.{inside-low, inside-high}
 use Rattle.model.specs.Messages.{lengthOf, recordLength}
-use Rattle.laws.proofs.Records.{square-small}
-use Rattle.laws.proofs.Messages.{lengthOf-least, sized, fitAt, judged-submit, judged-outcome, judged-commit, judged-reply, judged-misnamed}
+use Rattle.laws.proofs.Messages.{lengthOf-least, sized, fitAt, judged, judged-submit}
+use Rattle.laws.proofs.Messages.{judged-outcome, judged-commit, judged-reply, judged-misnamed}
+use Rattle.laws.proofs.Tests.{refused, allowed}
 use Rattle.message_numbers.proofs.fields_fit.Statement.{statement}
 use Rattle.message_numbers.proofs.fields_fit.Tie as tie
 
-shared-slice-read-wide : tie.Need-shared-slice-read-wide
-shared-slice-read-wide c = omega (arith, lengthOf-least (words (c .before .before .args .s .now) 3) (c .before .before .args .n))
+-- What is known at each place, built on the place before.
 
-fields-at-requires : tie.Need-fields-at-requires
-unfolding lengthOf
-fields-at-requires c κs =
-    let l = c .before .before .before .before .args .s .now in
-    let k : words l 3 ≡ 1 = sym (c .before .wide .ensures) ∙ c .if1 .taken in
-    let h = sized (c .before .before .before .before .args .n) l 1 (c .before .before .before .before .pre .1 .1 .1) k in
-    omega arith
+abbrev bytes : tie.Start → ℕ → ℕ
+bytes s = words (s .args .s .now)
+
+long : (s : tie.Start) → 5 ≤ length (s .args .s .now)
+long s = omega (arith, s .pre .1 .1 .1, lengthOf-least (bytes s 3) (s .args .n))
+
+abbrev start : tie.After-wide → tie.Start
+start c = c .before .before .before
+
+module _ (c : tie.After-wide) (k : ℕ) (e : c .wide .result ≡ k) where
+  is : bytes (start c) 3 ≡ k
+  is = sym (c .wide .ensures) ∙ e
+
+  length-of-kind : length (start c .args .s .now) ≡ 2 + lengthOf k (start c .args .n)
+  length-of-kind = sized (start c .args .n) (start c .args .s .now) k (start c .pre .1 .1 .1) is
+
+abbrev kind : tie.After-wide2 → tie.After-wide
+kind c = c .before .before .before
+
+-- a reply or a commit, which name n
+above : (c : tie.Else2) → 1 < bytes (start (kind (c .before))) 3
+above c =
+    let k = kind (c .before) in
+    let some-kind = inside-low 4 (bytes (start k) 3) (start k .pre .1 .1 .0) in
+    omega (arith, k .wide .ensures, c .before .before .before .if1 .left)
+
+below : (c : tie.Else2) → bytes (start (kind (c .before))) 3 < 4
+below c =
+    let k = kind (c .before) in
+    let some-kind = inside-high 4 (bytes (start k) 3) (start k .pre .1 .1 .0) in
+    omega (arith, k .wide .ensures, c .if2 .left)
+
+named : (c : tie.Else3) → let s = start (kind (c .before .before)) in bytes s 4 ≡ s .args .n
+named c = sym (c .before .before .wide2 .ensures) ∙ c .if3 .left
+
+-- a reply
+reply : (c : tie.Else4) → kind (c .before .before .before) .wide .result ≡ 2
+reply c =
+    let other = c .before .before in
+    omega (arith, kind (other .before) .wide .ensures, above other, below other, c .if4 .left)
+
+judged-two : (c : tie.Else4) → let s = start (kind (c .before .before .before)) in
+    judged (s .args .n) (bytes s) ≡ (fitAt (s .args .n) (bytes s) 5 && fitAt (s .args .n) (bytes s) (5 + recordLength (s .args .n)))
+judged-two c = judged-reply _ _ (is (kind (c .before .before .before)) 2 (reply c)) (named (c .before))
+
+-- The needs.
 
 returns : tie.Need-returns
-returns c =
-    let k : words (c .before .before .before .before .before .args .s .now) 3 ≡ 1 = sym (c .before .before .wide .ensures) ∙ c .before .if1 .taken in
-    c .fields-at .ensures ∙ sym (judged-submit (c .before .before .before .before .before .args .n) (words (c .before .before .before .before .before .args .s .now)) k)
-
-shared-slice-read-wide-2 : tie.Need-shared-slice-read-wide-2
-shared-slice-read-wide-2 c = omega (arith, lengthOf-least (words (c .before .before .before .before .before .args .s .now) 3) (c .before .before .before .before .before .args .n))
+returns c = c .fields-at .ensures ∙ sym (judged-submit _ _ (is (c .before .before) 1 (c .before .if1 .taken)))
 
 returns-2 : tie.Need-returns-2
 returns-2 c =
-    let k : words (c .before .before .before .before .before .before .before .before .args .s .now) 3 ≡ 4 = sym (c .before .before .before .before .before .wide .ensures) ∙ c .before .if2 .taken in
-    c .is-numbered .ensures ∙ ap (inside 2) (c .before .before .wide2 .ensures) ∙ sym (judged-outcome (c .before .before .before .before .before .before .before .before .args .n) (words (c .before .before .before .before .before .before .before .before .args .s .now)) k)
+    let fifth = c .before .before in
+    c .is-numbered .ensures ∙ ap (inside 2) (fifth .wide2 .ensures) ∙ sym (judged-outcome _ _ (is (kind fifth) 4 (c .before .if2 .taken)))
 
 returns-3 : tie.Need-returns-3
 returns-3 c =
-    let l = c .before .before .before .before .before .before .before .before .args .s .now in
-    sym (judged-misnamed (c .before .before .before .before .before .before .before .before .args .n) (words l)
-    (omega (arith, c .before .before .before .before .before .wide .ensures, c .before .before .before .before .if1 .left, inside-low 4 (words l 3) (c .before .before .before .before .before .before .before .before .pre .1 .1 .0)))
-    (omega (arith, c .before .before .before .before .before .wide .ensures, c .before .if2 .left, inside-high 4 (words l 3) (c .before .before .before .before .before .before .before .before .pre .1 .1 .0)))
-    (λ e. c .if3 .taken (c .before .before .wide2 .ensures ∙ e)))
-
-fields-at-requires-2 : tie.Need-fields-at-requires-2
-unfolding lengthOf
-fields-at-requires-2 c κs =
-    let l = c .before .before .before .before .before .before .before .before .before .args .s .now in
-    let k : words l 3 ≡ 3 = sym (c .before .before .before .before .before .before .wide .ensures) ∙ c .if4 .taken in
-    let h = sized (c .before .before .before .before .before .before .before .before .before .args .n) l 3 (c .before .before .before .before .before .before .before .before .before .pre .1 .1 .1) k in
-    omega arith
+    let other = c .before in
+    sym (judged-misnamed _ _ (above other) (below other) (λ e. c .if3 .taken (other .before .wide2 .ensures ∙ e)))
 
 returns-4 : tie.Need-returns-4
 returns-4 c =
-    let k : words (c .before .before .before .before .before .before .before .before .before .before .args .s .now) 3 ≡ 3 = sym (c .before .before .before .before .before .before .before .wide .ensures) ∙ c .before .if4 .taken in
-    c .fields-at2 .ensures ∙ sym (judged-commit (c .before .before .before .before .before .before .before .before .before .before .args .n) (words (c .before .before .before .before .before .before .before .before .before .before .args .s .now)) k (sym (c .before .before .before .before .wide2 .ensures) ∙ c .before .before .if3 .left))
-
-fields-at-requires-3 : tie.Need-fields-at-requires-3
-unfolding lengthOf
-fields-at-requires-3 c κs =
-    let l = c .before .before .before .before .before .before .before .before .before .args .s .now in
-    let k : words l 3 ≡ 2 = omega (arith, c .before .before .before .before .before .before .wide .ensures, c .before .before .before .before .before .if1 .left, c .before .before .if2 .left, c .if4 .left, inside-low 4 (words l 3) (c .before .before .before .before .before .before .before .before .before .pre .1 .1 .0), inside-high 4 (words l 3) (c .before .before .before .before .before .before .before .before .before .pre .1 .1 .0)) in
-    let h = sized (c .before .before .before .before .before .before .before .before .before .args .n) l 2 (c .before .before .before .before .before .before .before .before .before .pre .1 .1 .1) k in
-    omega arith
+    let else3 = c .before .before in
+    c .fields-at2 .ensures ∙ sym (judged-commit _ _ (is (kind (else3 .before .before)) 3 (c .before .if4 .taken)) (named else3))
 
 returns-5 : tie.Need-returns-5
-returns-5 c =
-    let l = c .before .before .before .before .before .before .before .before .before .before .before .args .s .now in
-    let k : words l 3 ≡ 2 = omega (arith, c .before .before .before .before .before .before .before .before .wide .ensures, c .before .before .before .before .before .before .before .if1 .left, c .before .before .before .before .if2 .left, c .before .before .if4 .left, inside-low 4 (words l 3) (c .before .before .before .before .before .before .before .before .before .before .before .pre .1 .1 .0), inside-high 4 (words l 3) (c .before .before .before .before .before .before .before .before .before .before .before .pre .1 .1 .0)) in
-    sym (judged-reply (c .before .before .before .before .before .before .before .before .before .before .before .args .n) (words l) k (sym (c .before .before .before .before .before .wide2 .ensures) ∙ c .before .before .before .if3 .left)
-    ∙ rw (sym (c .before .fields-at3 .ensures) ∙ not-true _ (c .if5 .taken)))
-
-mul-fields-at : tie.Need-mul-fields-at
-mul-fields-at c = record { fits = omega (arith, square-small (c .before .before .before .before .before .before .before .before .before .before .before .args .n) (omega arith)) }
-
-mul-fields-at-2 : tie.Need-mul-fields-at-2
-mul-fields-at-2 c = record { fits = omega (arith, square-small (c .before .before .before .before .before .before .before .before .before .before .before .args .n) (omega arith)) }
-
-add-fields-at : tie.Need-add-fields-at
-add-fields-at c = record { fits = omega (arith, square-small (c .before .before .before .before .before .before .before .before .before .before .before .args .n) (omega arith)) }
-
-fields-at-requires-4 : tie.Need-fields-at-requires-4
-unfolding lengthOf
-fields-at-requires-4 c κs =
-    let l = c .before .before .before .before .before .before .before .before .before .before .before .args .s .now in
-    let k : words l 3 ≡ 2 = omega (arith, c .before .before .before .before .before .before .before .before .wide .ensures, c .before .before .before .before .before .before .before .if1 .left, c .before .before .before .before .if2 .left, c .before .before .if4 .left, inside-low 4 (words l 3) (c .before .before .before .before .before .before .before .before .before .before .before .pre .1 .1 .0), inside-high 4 (words l 3) (c .before .before .before .before .before .before .before .before .before .before .before .pre .1 .1 .0)) in
-    let h = sized (c .before .before .before .before .before .before .before .before .before .before .before .args .n) l 2 (c .before .before .before .before .before .before .before .before .before .before .before .pre .1 .1 .1) k in
-    omega arith
+returns-5 c = sym (judged-two (c .before .before) ∙ rw (refused (c .before .fields-at3 .ensures) (c .if5 .taken)))
 
 returns-6 : tie.Need-returns-6
-unfolding recordLength
 returns-6 c =
-    let l = c .before .before .before .before .before .before .before .before .before .before .before .before .args .s .now in
-    let k : words l 3 ≡ 2 = omega (arith, c .before .before .before .before .before .before .before .before .before .wide .ensures, c .before .before .before .before .before .before .before .before .if1 .left, c .before .before .before .before .before .if2 .left, c .before .before .before .if4 .left, inside-low 4 (words l 3) (c .before .before .before .before .before .before .before .before .before .before .before .before .pre .1 .1 .0), inside-high 4 (words l 3) (c .before .before .before .before .before .before .before .before .before .before .before .before .pre .1 .1 .0)) in
-    let d : 44 + 4 * (c .before .before .before .before .before .before .before .before .before .before .before .before .args .n * c .before .before .before .before .before .before .before .before .before .before .before .before .args .n) ≡ 5 + recordLength (c .before .before .before .before .before .before .before .before .before .before .before .before .args .n) = omega arith in
+    let else5 = c .before .before in
+    let first = else5 .before in
+    let else4 = first .before in
+    let s = start (kind (else4 .before .before .before)) in
     c .fields-at4 .ensures
-    ∙ ap (fitAt (c .before .before .before .before .before .before .before .before .before .before .before .before .args .n) (words l)) d
-    ∙ sym (judged-reply (c .before .before .before .before .before .before .before .before .before .before .before .before .args .n) (words l) k (sym (c .before .before .before .before .before .before .wide2 .ensures) ∙ c .before .before .before .before .if3 .left)
-    ∙ rw (sym (c .before .before .fields-at3 .ensures) ∙ not-false _ (c .before .if5 .left)))
+    ∙ ap (fitAt (s .args .n) (bytes s)) (c .before .second-at .ensures)
+    ∙ sym (judged-two else4 ∙ rw (allowed (first .fields-at3 .ensures) (else5 .if5 .left)))
 
 pub fields-fit-spec : {M : Type 1} → statement M
+unfolding lengthOf recordLength
 fields-fit-spec =
     tie.close
     (tie.spec
-    shared-slice-read-wide
+    (λ c. omega (arith, long (c .before .before)))
     (λ c κs. search needs)
-    fields-at-requires
+    (λ c κs. omega (arith, length-of-kind (c .before) 1 (c .if1 .taken)))
     returns
-    shared-slice-read-wide-2
+    (λ c. omega (arith, long (start (c .before .before))))
     (λ c κs. search needs)
     (λ c κs. search needs)
     returns-2
     returns-3
-    fields-at-requires-2
+    (λ c κs. omega (arith, length-of-kind (kind (c .before .before .before)) 3 (c .if4 .taken)))
     returns-4
-    fields-at-requires-3
+    (λ c κs. omega (arith, length-of-kind (kind (c .before .before .before)) 2 (reply c)))
     returns-5
-    mul-fields-at
-    mul-fields-at-2
-    add-fields-at
-    fields-at-requires-4
+    (λ c κs. search needs)
+    (λ c κs. let else4 = c .before .before .before in
+    omega (arith, c .second-at .ensures, length-of-kind (kind (else4 .before .before .before)) 2 (reply else4)))
     returns-6)

@@ -1,54 +1,67 @@
--- `write` meets its contract. Assumes nothing.
+-- `write` meets its contract: the writer's number decides, and where it is 0 the message is taken and written.
 use borrow.Author.Needs.{needs}
-use Prim.Native.Nat.{_+_}
+use Prim.Native.Nat.{ℕ, _+_}
 use mathlib.Core.Path.{_≡_, sym, ap, _∙_}
 use native.Mathlib.Omega.{arith}
-use lib.ListN.{length}
 use borrow.Author.Tests.{eq-eqb, ne-eqb}
-use Rattle.lists.proofs.Functions.{inside-low, inside-high}
-use Rattle.model.specs.Messages.{writeNumber, writable, writtenLength, writtenTo}
-use Rattle.laws.proofs.Messages.{lengthOf-most, writable-of}
-use Rattle.messages.specs.Meaning.{fieldsIn, messageOf}
-use Rattle.messages.proofs.Laws.{given-kind, given-length}
+use Rattle.model.specs.Messages.{writable, writtenLength, writtenTo}
+use Rattle.laws.proofs.Messages.{length-asked, lengthOf-most}
+use Rattle.messages.specs.Meaning.{Fields, fieldsIn, messageOf, numberWritten}
+use Rattle.messages.proofs.Laws.{given-kind, given-length, taken, taken-high, taken-kind}
 use Rattle.messages.proofs.write.Statement.{statement}
 use Rattle.messages.proofs.write.Tie as tie
+
+-- What is known at each place, built on the place before.
+
+abbrev start : tie.After-writer-number → tie.Start
+start c = c .before .before
+
+abbrev fields : tie.Start → Fields
+fields s = fieldsIn (s .args .message)
+
+abbrev number : tie.Start → ℕ
+number s = numberWritten (s .args .n) (fields s) (s .args .out .now)
+
+none : (c : tie.Else1) → number (start (c .before)) ≡ 0
+none c = sym (c .before .writer-number .ensures) ∙ c .if1 .left
+
+long : (c : tie.After-length-of) → let s = start (c .before .before) in
+    writtenLength (s .args .n) (messageOf (fields s)) ≡ 2 + c .length-of .result
+unfolding fieldsIn
+long c =
+    let s = start (c .before .before) in
+    given-length (fields s) (s .args .n) (taken-kind (fields s) (s .args .n) (s .args .out .now) (none (c .before)))
+    ∙ ap (λ k. 2 + k) (sym (c .length-of .ensures))
+
+-- The needs.
 
 returns : tie.Need-returns
 unfolding writable writtenLength writtenTo
 returns c =
-    let e = ne-eqb (writeNumber (c .before .before .before .args .n) (messageOf (fieldsIn (c .before .before .before .args .message))) (length (c .before .before .before .args .out .now))) 0 (λ e. c .if1 .taken (c .before .writer-number .ensures ∙ e)) in
+    let e = ne-eqb (number (start (c .before))) 0 (λ e. c .if1 .taken (c .before .writer-number .ensures ∙ e)) in
     (c .before .writer-number .ensures, (rw e, rw e))
 
 length-of-requires : tie.Need-length-of-requires
 unfolding fieldsIn
 length-of-requires c κs =
-    let w = writable-of (c .before .before .before .args .n) (messageOf (fieldsIn (c .before .before .before .args .message))) (length (c .before .before .before .args .out .now)) (sym (c .before .writer-number .ensures) ∙ c .if1 .left) in
-    let k = given-kind (fieldsIn (c .before .before .before .args .message)) (c .before .before .before .args .n) (w .1 .0) in
-    (inside-low 4 _ k, (inside-high 4 _ k, (inside-low 12 _ (w .0), inside-high 12 _ (w .0))))
+    let s = start (c .before) in
+    let w = taken (fields s) (s .args .n) (s .args .out .now) (none c) in
+    length-asked (given-kind (fields s) (s .args .n) (w .fit)) (w .size)
 
 add-length : tie.Need-add-length
 add-length c =
-    let w = writable-of (c .before .before .before .before .args .n) (messageOf (fieldsIn (c .before .before .before .before .args .message))) (length (c .before .before .before .before .args .out .now)) (sym (c .before .before .writer-number .ensures) ∙ c .before .if1 .left) in
-    record { fits = omega (arith, c .length-of .ensures, lengthOf-most (c .before .before .before .before .args .message .kind) (c .before .before .before .before .args .n) (inside-high 12 _ (w .0))) }
-
-write-message-requires : tie.Need-write-message-requires
-write-message-requires c κs = sym (c .before .before .before .writer-number .ensures) ∙ c .before .before .if1 .left
-
-same-length : tie.Need-same-length
-same-length c = c .before .before .write-message .kept .0
+    let s = start (c .before .before) in
+    let high = taken-high (fields s) (s .args .n) (s .args .out .now) (none (c .before)) in
+    record { fits = omega (arith, c .length-of .ensures, lengthOf-most (s .args .message .kind) (s .args .n) high) }
 
 returns-2 : tie.Need-returns-2
-unfolding writable fieldsIn
+unfolding writable
 returns-2 c =
-    let e : writeNumber (c .before .before .before .before .before .before .before .before .args .n) (messageOf (fieldsIn (c .before .before .before .before .before .before .before .before .args .message))) (length (c .before .before .before .before .before .before .before .before .args .out .now)) ≡ 0 = sym (c .before .before .before .before .before .before .writer-number .ensures) ∙ c .before .before .before .before .before .if1 .left in
-    let w = writable-of (c .before .before .before .before .before .before .before .before .args .n) (messageOf (fieldsIn (c .before .before .before .before .before .before .before .before .args .message))) (length (c .before .before .before .before .before .before .before .before .args .out .now)) e in
-    let t = eq-eqb (writeNumber (c .before .before .before .before .before .before .before .before .args .n) (messageOf (fieldsIn (c .before .before .before .before .before .before .before .before .args .message))) (length (c .before .before .before .before .before .before .before .before .args .out .now))) 0 e in (
-      sym e,
-      (
-        rw t (sym (given-length (fieldsIn (c .before .before .before .before .before .before .before .before .args .message)) (c .before .before .before .before .before .before .before .before .args .n) (given-kind (fieldsIn (c .before .before .before .before .before .before .before .before .args .message)) (c .before .before .before .before .before .before .before .before .args .n) (w .1 .0)) ∙ ap (λ k. 2 + k) (sym (c .before .before .before .before .length-of .ensures)))),
-        rw t (c .before .before .write-message .ensures),
-      ),
-    )
+    let w = c .before .before in
+    let l = w .before .before in
+    let e = none (l .before) in
+    let t = eq-eqb (number (start (l .before .before))) 0 e in
+    (sym e, (rw t (sym (long l)), rw t (w .write-message .ensures)))
 
 pub write-spec : {M : Type 1} → statement M
 write-spec =
@@ -58,6 +71,6 @@ write-spec =
     returns
     length-of-requires
     add-length
-    write-message-requires
-    same-length
+    (λ c κs. none (c .before .before))
+    (λ c. c .before .before .write-message .kept .0)
     returns-2)

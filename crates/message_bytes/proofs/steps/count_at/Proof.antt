@@ -1,4 +1,4 @@
--- `count_at` meets its contract. Assumes nothing.
+-- `count_at` meets its contract: the number of a place that is used, and 0 past them.
 use borrow.Author.Needs.{needs}
 use Prim.Native.Nat.{_-_}
 use mathlib.Core.Path.{_≡_, sym, ap, _∙_}
@@ -16,7 +16,10 @@ returns c =
     let a = c .before .before .before .args in
     let g = numberIn (from (words (a .s .now)) (a .at)) in
     let e : a .i ≡ a .i - 0 = omega arith in
-    c .read-number .ensures ∙ sym (numberIn-at (words (a .s .now)) (a .at) (a .i)) ∙ ap g e ∙ sym (pasted-in 0 (a .n) g (λ k. 0) (a .i) (omega arith) (omega arith))
+    c .read-number .ensures
+    ∙ sym (numberIn-at (words (a .s .now)) (a .at) (a .i))
+    ∙ ap g e
+    ∙ sym (pasted-in 0 (a .n) g (λ k. 0) (a .i) (omega arith) (omega arith))
 
 returns-2 : tie.Need-returns-2
 returns-2 c =

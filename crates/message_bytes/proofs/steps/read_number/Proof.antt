@@ -1,13 +1,12 @@
--- `read_number` meets its contract. Assumes nothing.
+-- `read_number` meets its contract: the four bytes from `at` on are the number's.
 use borrow.Author.Needs.{needs}
 use mathlib.Core.Path.{sym, _∙_}
-use Rattle.lists.specs.Parts.{words}
 use Rattle.laws.proofs.Messages.{numberOf-at}
 use Rattle.message_bytes.proofs.steps.read_number.Statement.{statement}
 use Rattle.message_bytes.proofs.steps.read_number.Tie as tie
 
 returns : tie.Need-returns
-returns c = c .big-endian .ensures ∙ sym (numberOf-at (words (c .before .before .before .before .before .before .args .s .now)) (c .before .before .before .before .before .before .args .at))
+returns c = c .big-endian .ensures ∙ sym (numberOf-at _ _)
 
 pub read-number-spec : {M : Type 1} → statement M
 read-number-spec =

@@ -1,4 +1,4 @@
--- `read_row` meets its contract: its twelve counts are the row's, the unused ones zero. Assumes nothing.
+-- `read_row` meets its contract: its twelve counts are the row's, the unused ones zero.
 use borrow.Author.Needs.{needs}
 use mathlib.Core.List.{[], _∷_}
 use Rattle.lists.specs.Functions.{from}
@@ -11,18 +11,22 @@ use Rattle.message_bytes.proofs.steps.read_row.Tie as tie
 returns : tie.Need-returns
 unfolding tabulate
 returns c =
-    let a = c .before .before .before .before .before .before .before .before .before .before .before .before .before .args in
-    row-named _ (a .n) (numberIn (from (words (a .s .now)) (a .at))) (c .before .before .before .before .before .before .before .before .before .before .before .before .before .pre .0)
+    let c9 = c .before .before .before in
+    let c6 = c9 .before .before .before in
+    let c3 = c6 .before .before .before in
+    let c1 = c3 .before .before in
+    let start = c1 .before .before in
+    row-named _ _ (numberIn (from (words (start .args .s .now)) (start .args .at))) (start .pre .0)
     (λ i.
-    c .before .before .before .before .before .before .before .before .before .before .before .count-at .ensures i
-    ∷ c .before .before .before .before .before .before .before .before .before .before .count-at2 .ensures i
-    ∷ c .before .before .before .before .before .before .before .before .before .count-at3 .ensures i
-    ∷ c .before .before .before .before .before .before .before .before .count-at4 .ensures i
-    ∷ c .before .before .before .before .before .before .before .count-at5 .ensures i
-    ∷ c .before .before .before .before .before .before .count-at6 .ensures i
-    ∷ c .before .before .before .before .before .count-at7 .ensures i
-    ∷ c .before .before .before .before .count-at8 .ensures i
-    ∷ c .before .before .before .count-at9 .ensures i
+    c1 .count-at .ensures i
+    ∷ c3 .before .count-at2 .ensures i
+    ∷ c3 .count-at3 .ensures i
+    ∷ c6 .before .before .count-at4 .ensures i
+    ∷ c6 .before .count-at5 .ensures i
+    ∷ c6 .count-at6 .ensures i
+    ∷ c9 .before .before .count-at7 .ensures i
+    ∷ c9 .before .count-at8 .ensures i
+    ∷ c9 .count-at9 .ensures i
     ∷ c .before .before .count-at10 .ensures i
     ∷ c .before .count-at11 .ensures i
     ∷ c .count-at12 .ensures i

@@ -1,4 +1,4 @@
--- `read_value` meets its contract: the first i words are the numbers passed. Assumes nothing.
+-- `read_value` meets its contract: the first i words are the numbers passed.
 use borrow.Author.Needs.{needs}
 use Prim.Native.Nat.{ℕ, _-_, _≤_}
 use mathlib.Core.Path.{_≡_, refl, sym, ap, _∙_}
@@ -6,9 +6,8 @@ use native.Mathlib.Omega.{arith}
 use lib.ListN.{length, length-set}
 use Rattle.lists.specs.Functions.{from, pasted}
 use Rattle.lists.specs.Parts.{words}
-use Rattle.lists.proofs.Functions.{pasted-none}
 use Rattle.lists.proofs.Parts.{words-zeros, words-more}
-use Rattle.lists.proofs.Functions.{pasted-in}
+use Rattle.lists.proofs.Functions.{pasted-none, pasted-in}
 use Rattle.model.specs.RecordWords.{valueOf}
 use Rattle.model.specs.Messages.{numberIn}
 use Rattle.laws.proofs.Records.{valueOf-same}
@@ -27,23 +26,26 @@ loop-holds c = (search needs, (refl, words-zeros 8 ∙ sym (pasted-none 0 _ _)))
 
 loop-again : tie.Need-loop-again Inv-loop μ-loop
 loop-again c =
-    let a = (c .before .before .before .before .args) in
-    let l = (c .before .before .loop) in (
+    let head = c .before .before in
+    let a = head .before .before .args in
+    let l = head .loop in
+    let read = c .read-number .ensures ∙ sym (numberIn-at (words (a .s .now)) (a .at) (l .i)) in (
       search needs,
       (
         simp length-set (omega arith),
-        words-more (l .value) 0 (l .i) (l .i) _ (numberIn (from (words (a .s .now)) (a .at))) (λ k. 0) (l .inv .1 .1) (omega arith) (omega arith)
-            (c .read-number .ensures ∙ sym (numberIn-at (words (a .s .now)) (a .at) (l .i))),
+        words-more (l .value) 0 (l .i) (l .i) _ (numberIn (from (words (a .s .now)) (a .at))) (λ k. 0) (l .inv .1 .1)
+            (omega arith) (omega arith) read,
       ),
     )
 
 returns : tie.Need-returns Inv-loop μ-loop
 returns c =
-    let a = (c .before .before .before .args) in
-    let l = (c .before .loop) in
+    let a = c .before .before .before .args in
+    let l = c .before .loop in
     let e : l .i ≡ 8 = omega arith in
     let w : ℕ → ℕ = numberIn (from (words (a .s .now)) (a .at)) in
-    ap valueOf (rw e at (l .inv .1 .1)) ∙ valueOf-same (pasted 0 8 w (λ k. 0)) w (λ i h. pasted-in 0 8 w (λ k. 0) i (omega arith) (omega arith) ∙ ap w (omega arith))
+    ap valueOf (rw e at (l .inv .1 .1))
+    ∙ valueOf-same (pasted 0 8 w (λ k. 0)) w (λ i h. pasted-in 0 8 w (λ k. 0) i (omega arith) (omega arith) ∙ ap w (omega arith))
 
 pub read-value-spec : {M : Type 1} → statement M
 read-value-spec =

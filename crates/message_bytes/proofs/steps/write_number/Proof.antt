@@ -1,4 +1,4 @@
--- `write_number` meets its contract. Assumes nothing.
+-- `write_number` meets its contract: its four bytes are stored one by one.
 use borrow.Author.Needs.{needs}
 use native.Mathlib.Omega.{arith}
 use mathlib.Core.List.{[], _∷_}
@@ -7,15 +7,6 @@ use Rattle.model.specs.Messages.{numberBytes}
 use Rattle.message_bytes.proofs.Laws.{stored}
 use Rattle.message_bytes.proofs.steps.write_number.Statement.{statement}
 use Rattle.message_bytes.proofs.steps.write_number.Tie as tie
-
-slice-write-t-2 : tie.Need-slice-write-t-2
-slice-write-t-2 c = simp length-set (omega arith)
-
-slice-write-t-3 : tie.Need-slice-write-t-3
-slice-write-t-3 c = simp length-set (omega arith)
-
-slice-write-t-4 : tie.Need-slice-write-t-4
-slice-write-t-4 c = simp length-set (omega arith)
 
 returns : tie.Need-returns
 unfolding numberBytes
@@ -29,12 +20,12 @@ write-number-spec =
     (λ c. search needs)
     (λ c. search needs)
     (λ c. search needs)
-    slice-write-t-2
+    (λ c. simp length-set (omega arith))
     (λ c. search needs)
     (λ c. search needs)
-    slice-write-t-3
+    (λ c. simp length-set (omega arith))
     (λ c. search needs)
     (λ c. search needs)
-    slice-write-t-4
+    (λ c. simp length-set (omega arith))
     (λ c. search needs)
     returns)

@@ -1,66 +1,63 @@
--- `write_record` meets its contract. Assumes nothing.
+-- `write_record` meets its contract: three bytes, the count, the value and the matrix are written one after the other, and none of it
+-- changes the output's length.
 use borrow.Author.Needs.{needs}
-use mathlib.Core.Path.{_∙_}
+use mathlib.Core.Path.{_≡_, _∙_}
 use native.Mathlib.Omega.{arith}
-use lib.ListN.{length-set}
+use lib.ListN.{length, length-set}
 use Rattle.model.specs.Messages.{recordLength}
 use Rattle.message_bytes.proofs.Laws.{record-written}
 use Rattle.message_bytes.proofs.steps.write_record.Statement.{statement}
 use Rattle.message_bytes.proofs.steps.write_record.Tie as tie
 
-slice-write-t : tie.Need-slice-write-t
-unfolding recordLength
-slice-write-t c = omega arith
+-- What is known at each place, built on the place before.
 
-slice-write-t-2 : tie.Need-slice-write-t-2
-unfolding recordLength
-slice-write-t-2 c = simp length-set (omega arith)
+abbrev start : tie.After-write-number → tie.Start
+start c = let second = c .before .before .before in second .before .before .before
 
-slice-write-t-3 : tie.Need-slice-write-t-3
-unfolding recordLength
-slice-write-t-3 c = simp length-set (omega arith)
+length-numbered : (c : tie.After-write-number) → length (c .write-number .last .0) ≡ length (start c .args .t .now)
+length-numbered c = simp length-set at (c .write-number .kept .0)
 
-write-number-requires : tie.Need-write-number-requires
-unfolding recordLength
-write-number-requires c κs = simp length-set (omega arith)
+abbrev numbered : tie.After-value → tie.After-write-number
+numbered c = c .before .before .before
 
-write-value-requires : tie.Need-write-value-requires
-unfolding recordLength
-write-value-requires c κs = omega (arith, simp length-set at (c .before .before .before .before .write-number .kept .0))
+length-valued : (c : tie.After-write-value) → length (c .write-value .last .0) ≡ length (start (numbered (c .before .before)) .args .t .now)
+length-valued c = c .write-value .kept .0 ∙ length-numbered (numbered (c .before .before))
 
-write-matrix-requires : tie.Need-write-matrix-requires
-unfolding recordLength
-write-matrix-requires c κs = (search needs, omega (arith, c .before .before .before .before .write-value .kept .0, simp length-set at (c .before .before .before .before .before .before .before .before .before .write-number .kept .0)))
+abbrev valued : tie.After-matrix → tie.After-write-value
+valued c = c .before .before .before
+
+-- The needs.
 
 same-length : tie.Need-same-length
-same-length c = c .before .before .write-matrix .kept .0 ∙ c .before .before .before .before .before .before .before .write-value .kept .0 ∙ (simp length-set at (c .before .before .before .before .before .before .before .before .before .before .before .before .write-number .kept .0))
+same-length c = let m = c .before .before in m .write-matrix .kept .0 ∙ length-valued (valued (m .before .before))
 
 returns : tie.Need-returns
 returns c =
-    let a = (c .before .before .before .before .before .before .before .before .before .before .before .before .before .before .before .before .before .before .args) in
-    record-written (a .n) (a .r) (a .t .now) (a .at) (omega arith)
-    (c .before .before .before .before .before .before .before .before .before .before .before .before .write-number .last .0) (c .before .before .before .before .before .before .before .write-value .last .0) (c .before .before .write-matrix .last .0)
-    (c .before .before .before .before .before .before .before .before .before .before .before .before .write-number .ensures)
-    (c .before .before .before .before .before .before .before .write-value .ensures)
-    (c .before .before .write-matrix .ensures)
+    let m = c .before .before in
+    let v = valued (m .before .before) in
+    let x = numbered (v .before .before) in
+    let a = start x .args in
+    record-written (a .n) (a .r) (a .t .now) (a .at) (start x .pre .1 .0) (x .write-number .last .0) (v .write-value .last .0)
+    (m .write-matrix .last .0) (x .write-number .ensures) (v .write-value .ensures) (m .write-matrix .ensures)
 
 pub write-record-spec : {M : Type 1} → statement M
+unfolding recordLength
 write-record-spec =
     tie.close
     (tie.spec
     (λ c. search needs)
-    slice-write-t
+    (λ c. omega arith)
     (λ c. search needs)
     (λ c. search needs)
-    slice-write-t-2
+    (λ c. simp length-set (omega arith))
     (λ c. search needs)
     (λ c. search needs)
-    slice-write-t-3
+    (λ c. simp length-set (omega arith))
     (λ c. search needs)
-    write-number-requires
+    (λ c κs. simp length-set (omega arith))
     (λ c. search needs)
-    write-value-requires
+    (λ c κs. omega (arith, length-numbered (numbered (c .before))))
     (λ c. search needs)
-    write-matrix-requires
+    (λ c κs. (search needs, omega (arith, length-valued (valued (c .before)))))
     same-length
     returns)

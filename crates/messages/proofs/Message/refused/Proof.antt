@@ -1,4 +1,4 @@
--- `Message::refused` meets its contract. Assumes nothing.
+-- `Message::refused` meets its contract: field by field.
 use borrow.Author.Needs.{needs}
 use mathlib.Core.Path.{refl}
 use Rattle.messages.specs.Meaning.{fieldsIn, fieldsOf}

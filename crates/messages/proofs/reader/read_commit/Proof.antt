@@ -1,4 +1,4 @@
--- `read_commit` meets its contract. Assumes nothing.
+-- `read_commit` meets its contract: its record is read, the other fields are zero.
 use borrow.Author.Needs.{needs}
 use mathlib.Core.Path.{refl}
 use native.Mathlib.Omega.{arith}

@@ -1,4 +1,4 @@
--- `read_submit` meets its contract. Assumes nothing.
+-- `read_submit` meets its contract: its four fields are read, the others are those of no message.
 use borrow.Author.Needs.{needs}
 use Rattle.messages.specs.Meaning.{fieldsIn, fieldsOf}
 use Rattle.messages.proofs.reader.read_submit.Statement.{statement}
@@ -6,19 +6,23 @@ use Rattle.messages.proofs.reader.read_submit.Tie as tie
 
 returns : tie.Need-returns
 unfolding fieldsIn fieldsOf
-returns c = (
-  c .before .before .before .before .before .before .before .refused .ensures .0,
-  λ i. record {
-    kind = 1;
-    member = c .before .before .before .before .before .wide .ensures i;
-    slot = c .before .before .before .wide2 .ensures i;
-    operation = c .before .wide3 .ensures i;
-    count = c .read-number .ensures i;
-    result = c .before .before .before .before .before .before .before .refused .ensures .1 i .result;
-    newest = c .before .before .before .before .before .before .before .refused .ensures .1 i .newest;
-    stored = c .before .before .before .before .before .before .before .refused .ensures .1 i .stored;
-  },
-)
+returns c =
+    let operation = c .before in
+    let slot = operation .before .before in
+    let member = slot .before .before in
+    let zero = member .before .before .refused .ensures in (
+      zero .0,
+      λ i. record {
+        kind = 1;
+        member = member .wide .ensures i;
+        slot = slot .wide2 .ensures i;
+        operation = operation .wide3 .ensures i;
+        count = c .read-number .ensures i;
+        result = zero .1 i .result;
+        newest = zero .1 i .newest;
+        stored = zero .1 i .stored;
+      },
+    )
 
 pub read-submit-spec : {M : Type 1} → statement M
 read-submit-spec =

@@ -1,41 +1,58 @@
--- `write_commit` meets its contract. Assumes nothing.
+-- `write_commit` meets its contract: the heading and the record are written one behind the other.
 use borrow.Author.Needs.{needs}
-use mathlib.Core.Path.{ap, _∙_}
+use mathlib.Core.Path.{refl, sym, ap, _∙_}
 use native.Mathlib.Omega.{arith}
-use Rattle.lists.specs.Parts.{words}
-use Rattle.lists.specs.Functions.{pasted}
-use Rattle.model.specs.Messages.{lengthOf, recordLength}
-use Rattle.laws.proofs.Records.{square-small}
-use Rattle.laws.proofs.Messages.{heading}
+use Rattle.model.specs.Messages.{lengthOf}
+use Rattle.laws.proofs.Messages.{lengthOf-most, heading, commit-parts}
 use Rattle.records.specs.Meaning.{recordIn}
-use Rattle.messages.proofs.Laws.{commit-written}
+use Rattle.messages.specs.Meaning.{Fronted}
+use Rattle.messages.proofs.Laws.{fronted-same, fronted-record}
 use Rattle.messages.proofs.writer.write_commit.Statement.{statement}
 use Rattle.messages.proofs.writer.write_commit.Tie as tie
 
-length-of-requires : tie.Need-length-of-requires
-length-of-requires c κs = (omega arith, (omega arith, (omega arith, omega arith)))
+-- What is known at each place, built on the place before.
+
+abbrev start : tie.After-length-of → tie.Start
+start c = c .before .before .before
+
+front : (c : tie.After-write-heading) → let a = start (c .before) .args in
+    Fronted (heading (lengthOf 3 (a .n)) 3 (a .n)) (a .t .now) (c .write-heading .last .0)
+front c =
+    let a = start (c .before) .args in
+    let size = ap (λ s. heading s 3 (a .n)) (c .before .length-of .ensures) in
+    fronted-same (a .t .now) (c .write-heading .last .0) size (c .write-heading .ensures)
+
+abbrev headed : tie.After-write-record-arg → tie.After-write-heading
+headed c = c .before .before .before
+
+-- The needs.
 
 write-heading-requires : tie.Need-write-heading-requires
-unfolding lengthOf recordLength
-write-heading-requires c κs = (omega arith, omega (arith, c .length-of .ensures, square-small (c .before .before .before .args .n) (omega arith)))
+write-heading-requires c κs =
+    (omega arith, omega (arith, c .length-of .ensures, lengthOf-most 3 (start c .args .n) (start c .pre .1 .0)))
 
 write-record-requires : tie.Need-write-record-requires
-write-record-requires c κs = (omega arith, (omega (arith, c .before .before .before .write-heading .kept .0), (omega arith, (omega arith, omega arith))))
+write-record-requires c κs =
+    let s = start (headed c .before) in
+    (s .pre .1 .0, (omega (arith, headed c .write-heading .kept .0), s .pre .1 .1 .1))
 
 same-length : tie.Need-same-length
-same-length c = c .before .before .write-record .kept .0 ∙ c .before .before .before .before .before .before .write-heading .kept .0
+same-length c = let w = c .before .before in w .write-record .kept .0 ∙ headed (w .before) .write-heading .kept .0
 
 returns : tie.Need-returns
 returns c =
-    commit-written (c .before .before .before .before .before .before .before .before .before .before .args .n) (recordIn (c .before .before .before .before .before .before .before .before .before .before .args .r)) (c .before .before .before .before .before .before .before .before .before .before .args .t .now) (c .before .before .before .before .before .before .write-heading .last .0) (c .before .before .write-record .last .0)
-    (c .before .before .before .before .before .before .write-heading .ensures ∙ ap (λ s. pasted 0 5 (words (heading s 3 (c .before .before .before .before .before .before .before .before .before .before .args .n))) (words (c .before .before .before .before .before .before .before .before .before .before .args .t .now))) (c .before .before .before .before .before .before .before .length-of .ensures))
-    (c .before .before .write-record .ensures)
+    let w = c .before .before in
+    let h = headed (w .before) in
+    let a = start (h .before) .args in
+    fronted-same (a .t .now) (w .write-record .last .0) (sym (commit-parts (a .n) (recordIn (a .r))))
+    (fronted-record (a .n) (heading (lengthOf 3 (a .n)) 3 (a .n)) (recordIn (a .r)) (a .t .now) (h .write-heading .last .0)
+    (w .write-record .last .0) 5 refl (front h) (w .write-record .ensures))
 
 pub write-commit-spec : {M : Type 1} → statement M
 write-commit-spec =
     tie.close
     (tie.spec
-    length-of-requires
+    (λ c κs. search needs)
     (λ c. search needs)
     write-heading-requires
     write-record-requires

@@ -1,4 +1,4 @@
--- `write_heading` meets its contract. Assumes nothing.
+-- `write_heading` meets its contract: five bytes are stored one by one.
 use borrow.Author.Needs.{needs}
 use mathlib.Core.List.{[], _∷_}
 use native.Mathlib.Omega.{arith}
@@ -6,18 +6,6 @@ use lib.ListN.{length-set}
 use Rattle.message_bytes.proofs.Laws.{stored}
 use Rattle.messages.proofs.writer.write_heading.Statement.{statement}
 use Rattle.messages.proofs.writer.write_heading.Tie as tie
-
-slice-write-t-2 : tie.Need-slice-write-t-2
-slice-write-t-2 c = simp length-set (omega arith)
-
-slice-write-t-3 : tie.Need-slice-write-t-3
-slice-write-t-3 c = simp length-set (omega arith)
-
-slice-write-t-4 : tie.Need-slice-write-t-4
-slice-write-t-4 c = simp length-set (omega arith)
-
-slice-write-t-5 : tie.Need-slice-write-t-5
-slice-write-t-5 c = simp length-set (omega arith)
 
 returns : tie.Need-returns
 returns c = stored (c .args .t .now) 0 _ (_ ∷ _ ∷ _ ∷ _ ∷ []) (omega arith)
@@ -29,9 +17,9 @@ write-heading-spec =
     (λ c. search needs)
     (λ c. search needs)
     (λ c. search needs)
-    slice-write-t-2
-    slice-write-t-3
-    slice-write-t-4
-    slice-write-t-5
+    (λ c. simp length-set (omega arith))
+    (λ c. simp length-set (omega arith))
+    (λ c. simp length-set (omega arith))
+    (λ c. simp length-set (omega arith))
     (λ c. search needs)
     returns)

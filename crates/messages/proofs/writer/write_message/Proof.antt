@@ -1,153 +1,168 @@
--- `write_message` meets its contract: the message that is handed over, by its kind. Assumes nothing.
-use Prim.Native.Nat.{ℕ}
-use mathlib.Core.Path.{_≡_, sym, ap, _∙_}
+-- `write_message` meets its contract: the message that is handed over, by its kind, and what number 0 says of it.
+use Prim.Native.Nat.{ℕ, _+_, _≤_}
+use mathlib.Core.Path.{_≡_, sym}
+use mathlib.Core.Bool.{true}
+use mathlib.Core.List.{List}
+use mathlib.Core.Option.{some}
 use native.Mathlib.Omega.{arith}
 use lib.ListN.{length}
-use Rattle.lists.specs.Functions.{pasted}
-use Rattle.lists.specs.Parts.{words}
+use Rattle.lists.specs.Functions.{inside}
 use Rattle.lists.proofs.Functions.{first, second, inside-low, inside-high}
 use Rattle.model.specs.Halves.{fitRecord}
-use Rattle.model.specs.Messages.{submit, reply, commit, outcome, lengthOf, numberBytes, recordLength, fitMessage, writeNumber}
-use Rattle.laws.proofs.Messages.{writable-of, fit-small, submit-parts, outcome-parts}
+use Rattle.model.specs.Messages.{Message, reply, lengthOf, recordLength, encode, fitMessage, writtenTo}
+use Rattle.laws.proofs.Messages.{fit-small, submit-parts, outcome-parts}
 use Rattle.records.specs.Meaning.{recordIn}
-use Rattle.messages.specs.Meaning.{Fields, fieldsIn, messageOf}
-use Rattle.messages.proofs.Laws.{given-kind, given-submit, given-reply, given-commit, given-outcome, given-fit, given-room, wrote}
+use Rattle.messages.specs.Meaning.{Fields, Fronted, fieldsIn, messageOf}
+use Rattle.messages.proofs.Laws.{given-submit, given-reply, given-commit, given-outcome, taken-low}
+use Rattle.messages.proofs.Laws.{taken-high, taken-kind, taken-fit, taken-room, fronted-same, wrote}
 use Rattle.messages.proofs.writer.write_message.Statement.{statement}
 use Rattle.messages.proofs.writer.write_message.Tie as tie
 
--- the kind that is left
-two : (f : Fields) (n room : ℕ) → writeNumber n (messageOf f) room ≡ 0 → (f .kind ≡ 1 → ⊥) → (f .kind ≡ 3 → ⊥) → (f .kind ≡ 4 → ⊥) → f .kind ≡ 2
-two f n room h a c d =
-    let k = given-kind f n (writable-of n (messageOf f) room h .1 .0) in
-    omega (arith, inside-low 4 (f .kind) k, inside-high 4 (f .kind) k)
+-- What number 0 says of the message.
+
+abbrev fields : tie.Start → Fields
+fields s = fieldsIn (s .args .message)
+
+module _ (s : tie.Start) where
+  low : 1 ≤ s .args .n
+  low = taken-low (fields s) (s .args .n) (s .args .t .now) (s .pre)
+
+  high : s .args .n ≤ 12
+  high = taken-high (fields s) (s .args .n) (s .args .t .now) (s .pre)
+
+  known : inside 4 (fields s .kind) ≡ true
+  known = taken-kind (fields s) (s .args .n) (s .args .t .now) (s .pre)
+
+  fit : (m : Message) → messageOf (fields s) ≡ some m → fitMessage (s .args .n) m ≡ true
+  fit = taken-fit (fields s) (s .args .n) (s .args .t .now) (s .pre)
+
+  room : (k : ℕ) → fields s .kind ≡ k → 2 + lengthOf k (s .args .n) ≤ length (s .args .t .now)
+  room = taken-room (fields s) (s .args .n) (s .args .t .now) (s .pre)
+
+  written : (m : Message) (t : List ℕ) → messageOf (fields s) ≡ some m → length t ≡ length (s .args .t .now)
+      → Fronted (encode (s .args .n) m) (s .args .t .now) t → t ≡ writtenTo (s .args .n) (messageOf (fields s)) (s .args .t .now)
+  written = wrote (fields s) (s .args .n) (s .args .t .now) (s .pre)
+
+-- What is known at each place, built on the place before: the kind, and the message of it.
+
+abbrev start : tie.Else1 → tie.Start
+start c = c .before .before
+
+first-kind : (c : tie.Then1) → fields (c .before .before) .kind ≡ 1
+unfolding fieldsIn
+first-kind c = c .if1 .taken
+
+fourth-kind : (c : tie.Then2) → fields (start (c .before)) .kind ≡ 4
+unfolding fieldsIn
+fourth-kind c = c .if2 .taken
+
+third-kind : (c : tie.Then3) → fields (start (c .before .before)) .kind ≡ 3
+unfolding fieldsIn
+third-kind c = c .if3 .taken
+
+second-kind : (c : tie.Else3) → fields (start (c .before .before)) .kind ≡ 2
+unfolding fieldsIn
+second-kind c =
+    let else1 = c .before .before in
+    let k = known (start else1) in
+    omega (
+      arith,
+      inside-low 4 (start else1 .args .message .kind) k,
+      inside-high 4 (start else1 .args .message .kind) k,
+      else1 .if1 .left,
+      c .before .if2 .left,
+      c .if3 .left,
+    )
+
+result-high : (c : tie.Then2) → start (c .before) .args .message .outcome ≤ 2
+unfolding fitMessage fieldsIn
+result-high c =
+    let s = start (c .before) in
+    inside-high 2 (s .args .message .outcome) (fit s _ (given-outcome (fields s) (fourth-kind c)))
+
+-- The needs.
 
 write-submit-requires : tie.Need-write-submit-requires
 unfolding fitMessage fieldsIn lengthOf
 write-submit-requires c κs =
-    let f = fieldsIn (c .before .before .before .args .message) in
-    let n = c .before .before .before .args .n in
-    let w = writable-of n (messageOf f) (length (c .before .before .before .args .t .now)) (c .before .before .before .pre) in
-    let h = inside-high 12 n (w .0) in
-    let k = given-submit f (c .before .if1 .taken) in
-    (given-room f n 1 _ (c .before .if1 .taken) (c .before .before .before .pre), fit-small n _ _ _ h (given-fit f n _ _ k (c .before .before .before .pre)))
-
-same-length : tie.Need-same-length
-same-length c = c .before .before .write-submit .kept .0
+    let s = c .before .before .before in
+    let k = first-kind (c .before) in
+    (room s 1 k, fit-small (s .args .n) _ _ _ (high s) (fit s _ (given-submit (fields s) k)))
 
 returns : tie.Need-returns
-unfolding fieldsIn numberBytes
+unfolding fieldsIn
 returns c =
-    let f = fieldsIn (c .before .before .before .before .before .before .args .message) in
-    let n = c .before .before .before .before .before .before .args .n in
-    let l = c .before .before .before .before .before .before .args .t .now in
-    let m = c .before .before .before .before .before .before .args .message in
-    wrote f n (submit (m .member) (m .slot) (m .operation) (m .count)) l (c .before .before .write-submit .last .0) (given-submit f (c .before .before .before .before .if1 .taken)) (c .before .before .before .before .before .before .pre) (c .before .before .write-submit .kept .0)
-    (c .before .before .write-submit .ensures ∙ ap (λ p. pasted 0 (length p) (words p) (words l)) (sym (submit-parts n (m .member) (m .slot) (m .operation) (m .count))))
-
-cast-write-heading : tie.Need-cast-write-heading
-unfolding fitMessage fieldsIn
-cast-write-heading c =
-    let f = fieldsIn (c .before .before .before .before .before .args .message) in
-    let n = c .before .before .before .before .before .args .n in
-    let h = inside-high 2 (c .before .before .before .before .before .args .message .outcome) (given-fit f n _ _ (given-outcome f (c .before .before .if2 .taken)) (c .before .before .before .before .before .pre)) in
-    record { fits = omega arith }
+    let w = c .before .before in
+    let then = w .before .before in
+    let s = then .before .before in
+    let m = s .args .message in
+    written s _ (w .write-submit .last .0) (given-submit (fields s) (first-kind then)) (w .write-submit .kept .0)
+    (fronted-same (s .args .t .now) (w .write-submit .last .0)
+    (sym (submit-parts (s .args .n) (m .member) (m .slot) (m .operation) (m .count))) (w .write-submit .ensures))
 
 write-heading-requires : tie.Need-write-heading-requires
-unfolding fieldsIn lengthOf
-write-heading-requires c κs =
-    let f = fieldsIn (c .before .before .before .before .before .args .message) in
-    let n = c .before .before .before .before .before .args .n in
-    (given-room f n 4 _ (c .before .before .if2 .taken) (c .before .before .before .before .before .pre), omega arith)
-
-same-length-2 : tie.Need-same-length-2
-same-length-2 c = c .before .before .write-heading .kept .0
+unfolding lengthOf
+write-heading-requires c κs = let then = c .before .before in (room (start (then .before)) 4 (fourth-kind then), omega arith)
 
 returns-2 : tie.Need-returns-2
 unfolding fieldsIn
 returns-2 c =
-    let f = fieldsIn (c .before .before .before .before .before .before .before .before .args .message) in
-    let n = c .before .before .before .before .before .before .before .before .args .n in
-    let l = c .before .before .before .before .before .before .before .before .args .t .now in
-    let m = c .before .before .before .before .before .before .before .before .args .message in
-    wrote f n (outcome (m .outcome)) l (c .before .before .write-heading .last .0) (given-outcome f (c .before .before .before .before .before .if2 .taken)) (c .before .before .before .before .before .before .before .before .pre) (c .before .before .write-heading .kept .0)
-    (c .before .before .write-heading .ensures ∙ ap (λ p. pasted 0 (length p) (words p) (words l)) (sym (outcome-parts n (m .outcome))))
+    let w = c .before .before in
+    let then = w .before .before .before in
+    let s = start (then .before) in
+    written s _ (w .write-heading .last .0) (given-outcome (fields s) (fourth-kind then)) (w .write-heading .kept .0)
+    (fronted-same (s .args .t .now) (w .write-heading .last .0) (sym (outcome-parts (s .args .n) (s .args .message .outcome)))
+    (w .write-heading .ensures))
 
 write-commit-requires : tie.Need-write-commit-requires
 unfolding fitMessage fitRecord fieldsIn recordIn lengthOf recordLength
 write-commit-requires c κs =
-    let f = fieldsIn (c .before .before .before .before .before .args .message) in
-    let n = c .before .before .before .before .before .args .n in
-    let w = writable-of n (messageOf f) (length (c .before .before .before .before .before .args .t .now)) (c .before .before .before .before .before .pre) in
-    let k = given-commit f (c .before .if3 .taken) in (
-      inside-low 12 n (w .0),
-      (
-        inside-high 12 n (w .0),
-        (omega (arith, given-room f n 3 _ (c .before .if3 .taken) (c .before .before .before .before .before .pre)), fit-small n _ _ _ (inside-high 12 n (w .0)) (given-fit f n _ _ k (c .before .before .before .before .before .pre))),
-      ),
-    )
-
-same-length-3 : tie.Need-same-length-3
-same-length-3 c = c .before .before .write-commit .kept .0
+    let s = start (c .before .before .before) in
+    let k = third-kind (c .before) in
+    (low s, (high s, (omega (arith, room s 3 k), fit-small (s .args .n) _ _ _ (high s) (fit s _ (given-commit (fields s) k)))))
 
 returns-3 : tie.Need-returns-3
 unfolding fieldsIn
 returns-3 c =
-    let f = fieldsIn (c .before .before .before .before .before .before .before .before .args .message) in
-    let n = c .before .before .before .before .before .before .before .before .args .n in
-    let l = c .before .before .before .before .before .before .before .before .args .t .now in
-    wrote f n (commit (recordIn (c .before .before .before .before .before .before .before .before .args .message .newest))) l (c .before .before .write-commit .last .0) (given-commit f (c .before .before .before .before .if3 .taken)) (c .before .before .before .before .before .before .before .before .pre) (c .before .before .write-commit .kept .0)
-    (c .before .before .write-commit .ensures)
+    let w = c .before .before in
+    let then = w .before .before in
+    let s = start (then .before .before) in
+    written s _ (w .write-commit .last .0) (given-commit (fields s) (third-kind then)) (w .write-commit .kept .0) (w .write-commit .ensures)
 
 write-reply-requires : tie.Need-write-reply-requires
 unfolding fitMessage fitRecord fieldsIn recordIn lengthOf recordLength
 write-reply-requires c κs =
-    let f = fieldsIn (c .before .before .before .before .before .args .message) in
-    let n = c .before .before .before .before .before .args .n in
-    let w = writable-of n (messageOf f) (length (c .before .before .before .before .before .args .t .now)) (c .before .before .before .before .before .pre) in
-    let k : c .before .before .before .before .before .args .message .kind ≡ 2 = two f n (length (c .before .before .before .before .before .args .t .now)) (c .before .before .before .before .before .pre) (c .before .before .before .if1 .left) (c .before .if3 .left) (c .before .before .if2 .left) in
-    let a = recordIn (c .before .before .before .before .before .args .message .newest) in
-    let b = recordIn (c .before .before .before .before .before .args .message .stored) in
-    let e = given-fit f n (reply a b) _ (given-reply f k) (c .before .before .before .before .before .pre) in (
-      inside-low 12 n (w .0),
-      (
-        inside-high 12 n (w .0),
-        (
-          omega (arith, given-room f n 2 _ k (c .before .before .before .before .before .pre)),
-          (
-            fit-small n _ _ _ (inside-high 12 n (w .0)) (first (fitRecord n a) (fitRecord n b) e),
-            fit-small n _ _ _ (inside-high 12 n (w .0)) (second (fitRecord n a) (fitRecord n b) e),
-          ),
-        ),
-      ),
-    )
-
-same-length-4 : tie.Need-same-length-4
-same-length-4 c = c .before .before .write-reply .kept .0
+    let s = start (c .before .before .before) in
+    let k = second-kind (c .before) in
+    let a = recordIn (s .args .message .newest) in
+    let b = recordIn (s .args .message .stored) in
+    let both = fit s (reply a b) (given-reply (fields s) k) in
+    let newest = fit-small (s .args .n) _ _ _ (high s) (first (fitRecord (s .args .n) a) (fitRecord (s .args .n) b) both) in
+    let stored = fit-small (s .args .n) _ _ _ (high s) (second (fitRecord (s .args .n) a) (fitRecord (s .args .n) b) both) in
+    (low s, (high s, (omega (arith, room s 2 k), (newest, stored))))
 
 returns-4 : tie.Need-returns-4
 unfolding fieldsIn
 returns-4 c =
-    let f = fieldsIn (c .before .before .before .before .before .before .before .before .args .message) in
-    let n = c .before .before .before .before .before .before .before .before .args .n in
-    let l = c .before .before .before .before .before .before .before .before .args .t .now in
-    let k : c .before .before .before .before .before .before .before .before .args .message .kind ≡ 2 = two f n (length (c .before .before .before .before .before .before .before .before .args .t .now)) (c .before .before .before .before .before .before .before .before .pre) (c .before .before .before .before .before .before .if1 .left) (c .before .before .before .before .if3 .left) (c .before .before .before .before .before .if2 .left) in
-    wrote f n (reply (recordIn (c .before .before .before .before .before .before .before .before .args .message .newest)) (recordIn (c .before .before .before .before .before .before .before .before .args .message .stored))) l (c .before .before .write-reply .last .0) (given-reply f k) (c .before .before .before .before .before .before .before .before .pre)
-    (c .before .before .write-reply .kept .0) (c .before .before .write-reply .ensures)
+    let w = c .before .before in
+    let else3 = w .before .before in
+    let s = start (else3 .before .before) in
+    written s _ (w .write-reply .last .0) (given-reply (fields s) (second-kind else3)) (w .write-reply .kept .0) (w .write-reply .ensures)
 
 pub write-message-spec : {M : Type 1} → statement M
 write-message-spec =
     tie.close
     (tie.spec
     write-submit-requires
-    same-length
+    (λ c. c .before .before .write-submit .kept .0)
     returns
-    cast-write-heading
+    (λ c. record { fits = omega (arith, result-high (c .before .before)) })
     write-heading-requires
-    same-length-2
+    (λ c. c .before .before .write-heading .kept .0)
     returns-2
     write-commit-requires
-    same-length-3
+    (λ c. c .before .before .write-commit .kept .0)
     returns-3
     write-reply-requires
-    same-length-4
+    (λ c. c .before .before .write-reply .kept .0)
     returns-4)

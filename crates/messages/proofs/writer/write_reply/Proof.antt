@@ -1,62 +1,91 @@
--- `write_reply` meets its contract. Assumes nothing.
+-- `write_reply` meets its contract: the heading and the two records are written one behind the other.
 use borrow.Author.Needs.{needs}
-use mathlib.Core.Path.{ap, _∙_}
+use Prim.Native.Nat.{_+_}
+use mathlib.Core.Path.{_≡_, refl, sym, ap, _∙_}
+use mathlib.Core.List.{_++_}
 use native.Mathlib.Omega.{arith}
-use Rattle.lists.specs.Parts.{words}
-use Rattle.lists.specs.Functions.{pasted}
-use Rattle.model.specs.Messages.{lengthOf, recordLength}
-use Rattle.laws.proofs.Records.{square-small}
-use Rattle.laws.proofs.Messages.{heading}
+use lib.ListN.{length}
+use Rattle.model.specs.Messages.{lengthOf, recordBytes}
+use Rattle.laws.proofs.Messages.{lengthOf-most, length-recordBytes, heading, reply-parts}
 use Rattle.records.specs.Meaning.{recordIn}
-use Rattle.messages.proofs.Laws.{reply-written}
+use Rattle.messages.specs.Meaning.{Fronted}
+use Rattle.messages.proofs.Laws.{fronted-same, fronted-record}
 use Rattle.messages.proofs.writer.write_reply.Statement.{statement}
 use Rattle.messages.proofs.writer.write_reply.Tie as tie
 
-length-of-requires : tie.Need-length-of-requires
-length-of-requires c κs = (omega arith, (omega arith, (omega arith, omega arith)))
+-- What is known at each place, built on the place before.
+
+abbrev start : tie.After-length-of → tie.Start
+start c = c .before .before .before
+
+front : (c : tie.After-write-heading) → let a = start (c .before) .args in
+    Fronted (heading (lengthOf 2 (a .n)) 2 (a .n)) (a .t .now) (c .write-heading .last .0)
+front c =
+    let a = start (c .before) .args in
+    let size = ap (λ s. heading s 2 (a .n)) (c .before .length-of .ensures) in
+    fronted-same (a .t .now) (c .write-heading .last .0) size (c .write-heading .ensures)
+
+abbrev headed : tie.After-write-record-arg → tie.After-write-heading
+headed c = c .before .before .before
+
+abbrev start-headed : tie.After-write-record-arg → tie.Start
+start-headed c = start (headed c .before)
+
+length-first : (c : tie.After-write-record) → length (c .write-record .last .0) ≡ length (start-headed (c .before) .args .t .now)
+length-first c = c .write-record .kept .0 ∙ headed (c .before) .write-heading .kept .0
+
+front-first : (c : tie.After-write-record) → let a = start-headed (c .before) .args in
+    Fronted (heading (lengthOf 2 (a .n)) 2 (a .n) ++ recordBytes (a .n) (recordIn (a .newest))) (a .t .now) (c .write-record .last .0)
+front-first c =
+    let h = headed (c .before) in
+    let a = start (h .before) .args in
+    fronted-record (a .n) (heading (lengthOf 2 (a .n)) 2 (a .n)) (recordIn (a .newest)) (a .t .now) (h .write-heading .last .0)
+    (c .write-record .last .0) 5 refl (front h) (c .write-record .ensures)
+
+abbrev first : tie.After-write-record-arg2 → tie.After-write-record
+first c = c .before .before .before
+
+-- The needs.
 
 write-heading-requires : tie.Need-write-heading-requires
-unfolding lengthOf recordLength
-write-heading-requires c κs = (omega arith, omega (arith, c .length-of .ensures, square-small (c .before .before .before .args .n) (omega arith)))
+write-heading-requires c κs =
+    (omega arith, omega (arith, c .length-of .ensures, lengthOf-most 2 (start c .args .n) (start c .pre .1 .0)))
 
 write-record-requires : tie.Need-write-record-requires
-write-record-requires c κs = (omega arith, (omega (arith, c .before .before .before .write-heading .kept .0), (omega arith, (omega arith, omega arith))))
-
-mul-write-record : tie.Need-mul-write-record
-mul-write-record c = record { fits = omega (arith, square-small (c .before .before .before .before .before .before .before .before .before .before .before .args .n) (omega arith)) }
-
-mul-write-record-2 : tie.Need-mul-write-record-2
-mul-write-record-2 c = record { fits = omega (arith, square-small (c .before .before .before .before .before .before .before .before .before .before .before .args .n) (omega arith)) }
-
-add-write-record : tie.Need-add-write-record
-add-write-record c = record { fits = omega (arith, square-small (c .before .before .before .before .before .before .before .before .before .before .before .args .n) (omega arith)) }
+write-record-requires c κs =
+    let s = start-headed c in
+    (s .pre .1 .0, (omega (arith, headed c .write-heading .kept .0), s .pre .1 .1 .1 .0))
 
 write-record-requires-2 : tie.Need-write-record-requires-2
-unfolding recordLength
-write-record-requires-2 c κs = (omega arith, (omega (arith, c .before .before .before .write-record .kept .0, c .before .before .before .before .before .before .before .write-heading .kept .0), (omega arith, (omega arith, omega arith))))
+write-record-requires-2 c κs =
+    let w = first (c .before) in
+    let s = start-headed (w .before) in
+    (s .pre .1 .0, (omega (arith, c .second-at .ensures, length-first w), s .pre .1 .1 .1 .1))
 
 same-length : tie.Need-same-length
-same-length c = c .before .before .write-record2 .kept .0 ∙ c .before .before .before .before .before .before .write-record .kept .0 ∙ c .before .before .before .before .before .before .before .before .before .before .write-heading .kept .0
+same-length c = let w = c .before .before in w .write-record2 .kept .0 ∙ length-first (first (w .before .before))
 
 returns : tie.Need-returns
 returns c =
-    reply-written (c .before .before .before .before .before .before .before .before .before .before .before .before .before .before .args .n) (recordIn (c .before .before .before .before .before .before .before .before .before .before .before .before .before .before .args .newest)) (recordIn (c .before .before .before .before .before .before .before .before .before .before .before .before .before .before .args .stored)) (c .before .before .before .before .before .before .before .before .before .before .before .before .before .before .args .t .now)
-    (c .before .before .before .before .before .before .before .before .before .before .write-heading .last .0) (c .before .before .before .before .before .before .write-record .last .0) (c .before .before .write-record2 .last .0)
-    (c .before .before .before .before .before .before .before .before .before .before .write-heading .ensures ∙ ap (λ s. pasted 0 5 (words (heading s 2 (c .before .before .before .before .before .before .before .before .before .before .before .before .before .before .args .n))) (words (c .before .before .before .before .before .before .before .before .before .before .before .before .before .before .args .t .now))) (c .before .before .before .before .before .before .before .before .before .before .before .length-of .ensures))
-    (c .before .before .before .before .before .before .write-record .ensures)
-    (c .before .before .write-record2 .ensures)
+    let w = c .before .before in
+    let f = first (w .before .before) in
+    let a = start-headed (f .before) .args in
+    let front = heading (lengthOf 2 (a .n)) 2 (a .n) ++ recordBytes (a .n) (recordIn (a .newest)) in
+    let place : w .before .second-at .result ≡ length front =
+    omega (arith, w .before .second-at .ensures, length-recordBytes (a .n) (recordIn (a .newest))) in
+    fronted-same (a .t .now) (w .write-record2 .last .0) (sym (reply-parts (a .n) (recordIn (a .newest)) (recordIn (a .stored))))
+    (fronted-record (a .n) front (recordIn (a .stored)) (a .t .now) (f .write-record .last .0) (w .write-record2 .last .0)
+    (w .before .second-at .result) place (front-first f) (w .write-record2 .ensures))
 
 pub write-reply-spec : {M : Type 1} → statement M
 write-reply-spec =
     tie.close
     (tie.spec
-    length-of-requires
+    (λ c κs. search needs)
     (λ c. search needs)
     write-heading-requires
     write-record-requires
-    mul-write-record
-    mul-write-record-2
-    add-write-record
+    (λ c κs. search needs)
     write-record-requires-2
     same-length
     returns)
