@@ -100,6 +100,11 @@ number-more w a i f =
     pasted-join a (i * 4) 4 (byteIn w) (words (numberBytes (w i))) f (λ k h. sym (byteIn-at w i k h))
     ∙ ap (λ k. pasted a k (byteIn w) f) (let e : i * 4 + 4 ≡ (i + 1) * 4 = omega arith in e)
 
+-- and in the bytes that it is written to
+pub number-written : (w : ℕ → ℕ) (a i : ℕ) (f g h : ℕ → ℕ) → g ≡ pasted a (i * 4) (byteIn w) f
+    → h ≡ pasted (a + i * 4) 4 (words (numberBytes (w i))) g → h ≡ pasted a ((i + 1) * 4) (byteIn w) f
+number-written w a i f g h p q = q ∙ ap (pasted (a + i * 4) 4 (words (numberBytes (w i)))) p ∙ number-more w a i f
+
 pub numberIn-same : (b c : ℕ → ℕ) (i : ℕ) → ((k : ℕ) → k < 4 → b (i * 4 + k) ≡ c (i * 4 + k)) → numberIn b i ≡ numberIn c i
 unfolding numberIn from
 numberIn-same b c i h = numberOf-same (from b (i * 4)) (from c (i * 4)) h

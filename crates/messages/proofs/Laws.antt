@@ -17,7 +17,7 @@ use Rattle.model.specs.RecordWords.{recordWords}
 use Rattle.model.specs.Records.{Rec}
 use Rattle.model.specs.Messages.{Message, submit, reply, commit, outcome, kindOf, lengthOf, recordByte, recordLength}
 use Rattle.model.specs.Messages.{recordBytes, encode, fitMessage, fitGiven, writtenLength, writeNumber, writtenTo}
-use Rattle.laws.proofs.Messages.{Writable, by-kind, length-recordBytes, length-encode, writable-of}
+use Rattle.laws.proofs.Messages.{heading, by-kind, length-recordBytes, length-encode, writable-of}
 use Rattle.message_bytes.proofs.Laws.{stored}
 use Rattle.messages.specs.Meaning.{Fields, Fronted, messageOf}
 
@@ -43,6 +43,10 @@ record-bytes n a r w =
 
 pub fronted-same : {p q : List ℕ} (l t : List ℕ) → p ≡ q → Fronted p l t → Fronted q l t
 fronted-same l t e h = h ∙ ap (λ p. pasted 0 (length p) (words p) (words l)) e
+
+-- a heading whose length is known
+pub headed : {size k : ℕ} (kind x : ℕ) (l t : List ℕ) → size ≡ k → Fronted (heading size kind x) l t → Fronted (heading k kind x) l t
+headed kind x l t e = fronted-same l t (ap (λ s. heading s kind x) e)
 
 -- more bytes written behind those at the front, and a record
 pub fronted-more : (p q l t u : List ℕ) (k : ℕ) → k ≡ length p → Fronted p l t → words u ≡ pasted k (length q) (words q) (words t)
@@ -101,31 +105,32 @@ module _ (f : Fields) where
       said : (m : Message) → messageOf f ≡ some m → f .kind ≡ kindOf m → writtenLength n (messageOf f) ≡ 2 + lengthOf (f .kind) n
       said m e k = ap (writtenLength n) e ∙ length-encode n m ∙ ap (λ k. 2 + lengthOf k n) (sym k)
 
--- A message that the writer takes, and an output l: its fields fit, there is room, and what is then written is the definition's.
-module _ (f : Fields) (n : ℕ) (l : List ℕ) (h : writeNumber n (messageOf f) (length l) ≡ 0) where
-  pub taken : Writable n (messageOf f) (length l)
-  taken = writable-of n (messageOf f) (length l) h
-
-  pub taken-low : 1 ≤ n
-  taken-low = inside-low 12 n (taken .size)
-
-  pub taken-high : n ≤ 12
-  taken-high = inside-high 12 n (taken .size)
-
-  pub taken-kind : inside 4 (f .kind) ≡ true
-  taken-kind = given-kind f n (taken .fit)
-
-  pub taken-fit : (m : Message) → messageOf f ≡ some m → fitMessage n m ≡ true
-  unfolding fitGiven
-  taken-fit m e = sym (ap (fitGiven n) e) ∙ taken .fit
-
-  pub taken-room : (k : ℕ) → f .kind ≡ k → 2 + lengthOf k n ≤ length l
-  taken-room k e = rw (given-length f n taken-kind ∙ ap (λ k. 2 + lengthOf k n) e) at (taken .long)
-
-  pub wrote : (m : Message) (t : List ℕ) → messageOf f ≡ some m → length t ≡ length l → Fronted (encode n m) l t
+-- The fields f of a message that the writer takes, and the output l: it fits, there is room, and what is to be written.
+pub record Taken (n : ℕ) (f : Fields) (l : List ℕ) : Type 0 where
+  pub low : 1 ≤ n
+  pub high : n ≤ 12
+  pub kind-low : 1 ≤ f .kind
+  pub kind-high : f .kind ≤ 4
+  pub fit : (m : Message) → messageOf f ≡ some m → fitMessage n m ≡ true
+  pub due : writtenLength n (messageOf f) ≡ 2 + lengthOf (f .kind) n
+  pub room : (k : ℕ) → f .kind ≡ k → 2 + lengthOf k n ≤ length l
+  pub written : (m : Message) (t : List ℕ) → messageOf f ≡ some m → length t ≡ length l → Fronted (encode n m) l t
       → t ≡ writtenTo n (messageOf f) l
-  unfolding writtenTo writtenLength
-  wrote m t e same w =
-      let long = rw (ap (writtenLength n) e) at (taken .long) in
-      replaced-by l t 0 (encode n m) (omega arith) same w
-      ∙ sym (ap (λ m. writtenTo n m l) e)
+
+pub taken : (n : ℕ) (f : Fields) (l : List ℕ) → writeNumber n (messageOf f) (length l) ≡ 0 → Taken n f l
+unfolding fitGiven writtenTo writtenLength
+taken n f l h =
+    let w = writable-of n (messageOf f) (length l) h in
+    let k = given-kind f n (w .fit) in
+    record {
+      low = inside-low 12 n (w .size);
+      high = inside-high 12 n (w .size);
+      kind-low = inside-low 4 (f .kind) k;
+      kind-high = inside-high 4 (f .kind) k;
+      fit = λ m e. sym (ap (fitGiven n) e) ∙ w .fit;
+      due = given-length f n k;
+      room = λ k e. rw (given-length f n (given-kind f n (w .fit)) ∙ ap (λ k. 2 + lengthOf k n) e) at (w .long);
+      written = λ m t e same p.
+          let long = rw (ap (writtenLength n) e) at (w .long) in
+          replaced-by l t 0 (encode n m) (omega arith) same p ∙ sym (ap (λ m. writtenTo n m l) e);
+    }

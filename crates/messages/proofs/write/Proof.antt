@@ -5,9 +5,9 @@ use mathlib.Core.Path.{_≡_, sym, ap, _∙_}
 use native.Mathlib.Omega.{arith}
 use borrow.Author.Tests.{eq-eqb, ne-eqb}
 use Rattle.model.specs.Messages.{writable, writtenLength, writtenTo}
-use Rattle.laws.proofs.Messages.{length-asked, lengthOf-most}
-use Rattle.messages.specs.Meaning.{Fields, fieldsIn, messageOf, numberWritten}
-use Rattle.messages.proofs.Laws.{given-kind, given-length, taken, taken-high, taken-kind}
+use Rattle.laws.proofs.Messages.{lengthOf-most}
+use Rattle.messages.specs.Meaning.{Fields, fieldsIn, numberWritten}
+use Rattle.messages.proofs.Laws.{Taken, taken}
 use Rattle.messages.proofs.write.Statement.{statement}
 use Rattle.messages.proofs.write.Tie as tie
 
@@ -25,13 +25,8 @@ number s = numberWritten (s .args .n) (fields s) (s .args .out .now)
 none : (c : tie.Else1) → number (start (c .before)) ≡ 0
 none c = sym (c .before .writer-number .ensures) ∙ c .if1 .left
 
-long : (c : tie.After-length-of) → let s = start (c .before .before) in
-    writtenLength (s .args .n) (messageOf (fields s)) ≡ 2 + c .length-of .result
-unfolding fieldsIn
-long c =
-    let s = start (c .before .before) in
-    given-length (fields s) (s .args .n) (taken-kind (fields s) (s .args .n) (s .args .out .now) (none (c .before)))
-    ∙ ap (λ k. 2 + k) (sym (c .length-of .ensures))
+handed : (c : tie.Else1) → let s = start (c .before) in Taken (s .args .n) (fields s) (s .args .out .now)
+handed c = let s = start (c .before) in taken (s .args .n) (fields s) (s .args .out .now) (none c)
 
 -- The needs.
 
@@ -43,25 +38,21 @@ returns c =
 
 length-of-requires : tie.Need-length-of-requires
 unfolding fieldsIn
-length-of-requires c κs =
-    let s = start (c .before) in
-    let w = taken (fields s) (s .args .n) (s .args .out .now) (none c) in
-    length-asked (given-kind (fields s) (s .args .n) (w .fit)) (w .size)
+length-of-requires c κs = let h = handed c in (h .kind-low, (h .kind-high, (h .low, h .high)))
 
 add-length : tie.Need-add-length
 add-length c =
-    let s = start (c .before .before) in
-    let high = taken-high (fields s) (s .args .n) (s .args .out .now) (none (c .before)) in
-    record { fits = omega (arith, c .length-of .ensures, lengthOf-most (s .args .message .kind) (s .args .n) high) }
+    let a = start (c .before .before) .args in
+    record { fits = omega (arith, c .length-of .ensures, lengthOf-most (a .message .kind) (a .n) (handed (c .before) .high)) }
 
 returns-2 : tie.Need-returns-2
-unfolding writable
+unfolding writable fieldsIn
 returns-2 c =
     let w = c .before .before in
     let l = w .before .before in
     let e = none (l .before) in
     let t = eq-eqb (number (start (l .before .before))) 0 e in
-    (sym e, (rw t (sym (long l)), rw t (w .write-message .ensures)))
+    (sym e, (rw t (ap (λ k. 2 + k) (l .length-of .ensures) ∙ sym (handed (l .before) .due)), rw t (w .write-message .ensures)))
 
 pub write-spec : {M : Type 1} → statement M
 write-spec =

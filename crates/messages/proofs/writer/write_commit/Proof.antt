@@ -1,12 +1,11 @@
 -- `write_commit` meets its contract: the heading and the record are written one behind the other.
 use borrow.Author.Needs.{needs}
-use mathlib.Core.Path.{refl, sym, ap, _∙_}
+use mathlib.Core.Path.{refl, sym, _∙_}
 use native.Mathlib.Omega.{arith}
 use Rattle.model.specs.Messages.{lengthOf}
 use Rattle.laws.proofs.Messages.{lengthOf-most, heading, commit-parts}
 use Rattle.records.specs.Meaning.{recordIn}
-use Rattle.messages.specs.Meaning.{Fronted}
-use Rattle.messages.proofs.Laws.{fronted-same, fronted-record}
+use Rattle.messages.proofs.Laws.{fronted-same, headed, fronted-record}
 use Rattle.messages.proofs.writer.write_commit.Statement.{statement}
 use Rattle.messages.proofs.writer.write_commit.Tie as tie
 
@@ -15,15 +14,8 @@ use Rattle.messages.proofs.writer.write_commit.Tie as tie
 abbrev start : tie.After-length-of → tie.Start
 start c = c .before .before .before
 
-front : (c : tie.After-write-heading) → let a = start (c .before) .args in
-    Fronted (heading (lengthOf 3 (a .n)) 3 (a .n)) (a .t .now) (c .write-heading .last .0)
-front c =
-    let a = start (c .before) .args in
-    let size = ap (λ s. heading s 3 (a .n)) (c .before .length-of .ensures) in
-    fronted-same (a .t .now) (c .write-heading .last .0) size (c .write-heading .ensures)
-
-abbrev headed : tie.After-write-record-arg → tie.After-write-heading
-headed c = c .before .before .before
+abbrev heads : tie.After-write-record-arg → tie.After-write-heading
+heads c = c .before .before .before
 
 -- The needs.
 
@@ -33,20 +25,22 @@ write-heading-requires c κs =
 
 write-record-requires : tie.Need-write-record-requires
 write-record-requires c κs =
-    let s = start (headed c .before) in
-    (s .pre .1 .0, (omega (arith, headed c .write-heading .kept .0), s .pre .1 .1 .1))
+    let s = start (heads c .before) in
+    (s .pre .1 .0, (omega (arith, heads c .write-heading .kept .0), s .pre .1 .1 .1))
 
 same-length : tie.Need-same-length
-same-length c = let w = c .before .before in w .write-record .kept .0 ∙ headed (w .before) .write-heading .kept .0
+same-length c = let w = c .before .before in w .write-record .kept .0 ∙ heads (w .before) .write-heading .kept .0
 
 returns : tie.Need-returns
 returns c =
     let w = c .before .before in
-    let h = headed (w .before) in
+    let h = heads (w .before) in
     let a = start (h .before) .args in
+    let l = h .write-heading .last .0 in
+    let front = headed 3 (a .n) (a .t .now) l (h .before .length-of .ensures) (h .write-heading .ensures) in
     fronted-same (a .t .now) (w .write-record .last .0) (sym (commit-parts (a .n) (recordIn (a .r))))
-    (fronted-record (a .n) (heading (lengthOf 3 (a .n)) 3 (a .n)) (recordIn (a .r)) (a .t .now) (h .write-heading .last .0)
-    (w .write-record .last .0) 5 refl (front h) (w .write-record .ensures))
+    (fronted-record (a .n) (heading (lengthOf 3 (a .n)) 3 (a .n)) (recordIn (a .r)) (a .t .now) l (w .write-record .last .0) 5 refl
+    front (w .write-record .ensures))
 
 pub write-commit-spec : {M : Type 1} → statement M
 write-commit-spec =

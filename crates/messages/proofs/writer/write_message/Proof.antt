@@ -1,49 +1,24 @@
 -- `write_message` meets its contract: the message that is handed over, by its kind, and what number 0 says of it.
-use Prim.Native.Nat.{ℕ, _+_, _≤_}
+use Prim.Native.Nat.{_≤_}
 use mathlib.Core.Path.{_≡_, sym}
-use mathlib.Core.Bool.{true}
-use mathlib.Core.List.{List}
-use mathlib.Core.Option.{some}
 use native.Mathlib.Omega.{arith}
-use lib.ListN.{length}
-use Rattle.lists.specs.Functions.{inside}
-use Rattle.lists.proofs.Functions.{first, second, inside-low, inside-high}
+use Rattle.lists.proofs.Functions.{first, second, inside-high}
 use Rattle.model.specs.Halves.{fitRecord}
-use Rattle.model.specs.Messages.{Message, reply, lengthOf, recordLength, encode, fitMessage, writtenTo}
+use Rattle.model.specs.Messages.{reply, lengthOf, recordLength, fitMessage}
 use Rattle.laws.proofs.Messages.{fit-small, submit-parts, outcome-parts}
 use Rattle.records.specs.Meaning.{recordIn}
-use Rattle.messages.specs.Meaning.{Fields, Fronted, fieldsIn, messageOf}
-use Rattle.messages.proofs.Laws.{given-submit, given-reply, given-commit, given-outcome, taken-low}
-use Rattle.messages.proofs.Laws.{taken-high, taken-kind, taken-fit, taken-room, fronted-same, wrote}
+use Rattle.messages.specs.Meaning.{Fields, fieldsIn}
+use Rattle.messages.proofs.Laws.{Taken, taken, given-submit, given-reply, given-commit, given-outcome, fronted-same}
 use Rattle.messages.proofs.writer.write_message.Statement.{statement}
 use Rattle.messages.proofs.writer.write_message.Tie as tie
 
--- What number 0 says of the message.
+-- What is known at each place, built on the place before: what number 0 says of the message, and its kind.
 
 abbrev fields : tie.Start → Fields
 fields s = fieldsIn (s .args .message)
 
-module _ (s : tie.Start) where
-  low : 1 ≤ s .args .n
-  low = taken-low (fields s) (s .args .n) (s .args .t .now) (s .pre)
-
-  high : s .args .n ≤ 12
-  high = taken-high (fields s) (s .args .n) (s .args .t .now) (s .pre)
-
-  known : inside 4 (fields s .kind) ≡ true
-  known = taken-kind (fields s) (s .args .n) (s .args .t .now) (s .pre)
-
-  fit : (m : Message) → messageOf (fields s) ≡ some m → fitMessage (s .args .n) m ≡ true
-  fit = taken-fit (fields s) (s .args .n) (s .args .t .now) (s .pre)
-
-  room : (k : ℕ) → fields s .kind ≡ k → 2 + lengthOf k (s .args .n) ≤ length (s .args .t .now)
-  room = taken-room (fields s) (s .args .n) (s .args .t .now) (s .pre)
-
-  written : (m : Message) (t : List ℕ) → messageOf (fields s) ≡ some m → length t ≡ length (s .args .t .now)
-      → Fronted (encode (s .args .n) m) (s .args .t .now) t → t ≡ writtenTo (s .args .n) (messageOf (fields s)) (s .args .t .now)
-  written = wrote (fields s) (s .args .n) (s .args .t .now) (s .pre)
-
--- What is known at each place, built on the place before: the kind, and the message of it.
+handed : (s : tie.Start) → Taken (s .args .n) (fields s) (s .args .t .now)
+handed s = taken (s .args .n) (fields s) (s .args .t .now) (s .pre)
 
 abbrev start : tie.Else1 → tie.Start
 start c = c .before .before
@@ -64,21 +39,14 @@ second-kind : (c : tie.Else3) → fields (start (c .before .before)) .kind ≡ 2
 unfolding fieldsIn
 second-kind c =
     let else1 = c .before .before in
-    let k = known (start else1) in
-    omega (
-      arith,
-      inside-low 4 (start else1 .args .message .kind) k,
-      inside-high 4 (start else1 .args .message .kind) k,
-      else1 .if1 .left,
-      c .before .if2 .left,
-      c .if3 .left,
-    )
+    let h = handed (start else1) in
+    omega (arith, h .kind-low, h .kind-high, else1 .if1 .left, c .before .if2 .left, c .if3 .left)
 
 result-high : (c : tie.Then2) → start (c .before) .args .message .outcome ≤ 2
 unfolding fitMessage fieldsIn
 result-high c =
     let s = start (c .before) in
-    inside-high 2 (s .args .message .outcome) (fit s _ (given-outcome (fields s) (fourth-kind c)))
+    inside-high 2 (s .args .message .outcome) (handed s .fit _ (given-outcome (fields s) (fourth-kind c)))
 
 -- The needs.
 
@@ -87,7 +55,7 @@ unfolding fitMessage fieldsIn lengthOf
 write-submit-requires c κs =
     let s = c .before .before .before in
     let k = first-kind (c .before) in
-    (room s 1 k, fit-small (s .args .n) _ _ _ (high s) (fit s _ (given-submit (fields s) k)))
+    (handed s .room 1 k, fit-small (s .args .n) _ _ _ (handed s .high) (handed s .fit _ (given-submit (fields s) k)))
 
 returns : tie.Need-returns
 unfolding fieldsIn
@@ -96,13 +64,13 @@ returns c =
     let then = w .before .before in
     let s = then .before .before in
     let m = s .args .message in
-    written s _ (w .write-submit .last .0) (given-submit (fields s) (first-kind then)) (w .write-submit .kept .0)
+    handed s .written _ (w .write-submit .last .0) (given-submit (fields s) (first-kind then)) (w .write-submit .kept .0)
     (fronted-same (s .args .t .now) (w .write-submit .last .0)
     (sym (submit-parts (s .args .n) (m .member) (m .slot) (m .operation) (m .count))) (w .write-submit .ensures))
 
 write-heading-requires : tie.Need-write-heading-requires
 unfolding lengthOf
-write-heading-requires c κs = let then = c .before .before in (room (start (then .before)) 4 (fourth-kind then), omega arith)
+write-heading-requires c κs = let then = c .before .before in (handed (start (then .before)) .room 4 (fourth-kind then), omega arith)
 
 returns-2 : tie.Need-returns-2
 unfolding fieldsIn
@@ -110,7 +78,7 @@ returns-2 c =
     let w = c .before .before in
     let then = w .before .before .before in
     let s = start (then .before) in
-    written s _ (w .write-heading .last .0) (given-outcome (fields s) (fourth-kind then)) (w .write-heading .kept .0)
+    handed s .written _ (w .write-heading .last .0) (given-outcome (fields s) (fourth-kind then)) (w .write-heading .kept .0)
     (fronted-same (s .args .t .now) (w .write-heading .last .0) (sym (outcome-parts (s .args .n) (s .args .message .outcome)))
     (w .write-heading .ensures))
 
@@ -119,7 +87,8 @@ unfolding fitMessage fitRecord fieldsIn recordIn lengthOf recordLength
 write-commit-requires c κs =
     let s = start (c .before .before .before) in
     let k = third-kind (c .before) in
-    (low s, (high s, (omega (arith, room s 3 k), fit-small (s .args .n) _ _ _ (high s) (fit s _ (given-commit (fields s) k)))))
+    let h = handed s in
+    (h .low, (h .high, (omega (arith, h .room 3 k), fit-small (s .args .n) _ _ _ (h .high) (h .fit _ (given-commit (fields s) k)))))
 
 returns-3 : tie.Need-returns-3
 unfolding fieldsIn
@@ -127,7 +96,8 @@ returns-3 c =
     let w = c .before .before in
     let then = w .before .before in
     let s = start (then .before .before) in
-    written s _ (w .write-commit .last .0) (given-commit (fields s) (third-kind then)) (w .write-commit .kept .0) (w .write-commit .ensures)
+    let m = given-commit (fields s) (third-kind then) in
+    handed s .written _ (w .write-commit .last .0) m (w .write-commit .kept .0) (w .write-commit .ensures)
 
 write-reply-requires : tie.Need-write-reply-requires
 unfolding fitMessage fitRecord fieldsIn recordIn lengthOf recordLength
@@ -136,10 +106,10 @@ write-reply-requires c κs =
     let k = second-kind (c .before) in
     let a = recordIn (s .args .message .newest) in
     let b = recordIn (s .args .message .stored) in
-    let both = fit s (reply a b) (given-reply (fields s) k) in
-    let newest = fit-small (s .args .n) _ _ _ (high s) (first (fitRecord (s .args .n) a) (fitRecord (s .args .n) b) both) in
-    let stored = fit-small (s .args .n) _ _ _ (high s) (second (fitRecord (s .args .n) a) (fitRecord (s .args .n) b) both) in
-    (low s, (high s, (omega (arith, room s 2 k), (newest, stored))))
+    let both = handed s .fit (reply a b) (given-reply (fields s) k) in
+    let newest = fit-small (s .args .n) _ _ _ (handed s .high) (first (fitRecord (s .args .n) a) (fitRecord (s .args .n) b) both) in
+    let stored = fit-small (s .args .n) _ _ _ (handed s .high) (second (fitRecord (s .args .n) a) (fitRecord (s .args .n) b) both) in
+    (handed s .low, (handed s .high, (omega (arith, handed s .room 2 k), (newest, stored))))
 
 returns-4 : tie.Need-returns-4
 unfolding fieldsIn
@@ -147,7 +117,8 @@ returns-4 c =
     let w = c .before .before in
     let else3 = w .before .before in
     let s = start (else3 .before .before) in
-    written s _ (w .write-reply .last .0) (given-reply (fields s) (second-kind else3)) (w .write-reply .kept .0) (w .write-reply .ensures)
+    let m = given-reply (fields s) (second-kind else3) in
+    handed s .written _ (w .write-reply .last .0) m (w .write-reply .kept .0) (w .write-reply .ensures)
 
 pub write-message-spec : {M : Type 1} → statement M
 write-message-spec =

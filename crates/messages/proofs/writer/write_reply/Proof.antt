@@ -1,7 +1,7 @@
 -- `write_reply` meets its contract: the heading and the two records are written one behind the other.
 use borrow.Author.Needs.{needs}
 use Prim.Native.Nat.{_+_}
-use mathlib.Core.Path.{_≡_, refl, sym, ap, _∙_}
+use mathlib.Core.Path.{_≡_, refl, sym, _∙_}
 use mathlib.Core.List.{_++_}
 use native.Mathlib.Omega.{arith}
 use lib.ListN.{length}
@@ -9,7 +9,7 @@ use Rattle.model.specs.Messages.{lengthOf, recordBytes}
 use Rattle.laws.proofs.Messages.{lengthOf-most, length-recordBytes, heading, reply-parts}
 use Rattle.records.specs.Meaning.{recordIn}
 use Rattle.messages.specs.Meaning.{Fronted}
-use Rattle.messages.proofs.Laws.{fronted-same, fronted-record}
+use Rattle.messages.proofs.Laws.{fronted-same, headed, fronted-record}
 use Rattle.messages.proofs.writer.write_reply.Statement.{statement}
 use Rattle.messages.proofs.writer.write_reply.Tie as tie
 
@@ -18,29 +18,24 @@ use Rattle.messages.proofs.writer.write_reply.Tie as tie
 abbrev start : tie.After-length-of → tie.Start
 start c = c .before .before .before
 
-front : (c : tie.After-write-heading) → let a = start (c .before) .args in
-    Fronted (heading (lengthOf 2 (a .n)) 2 (a .n)) (a .t .now) (c .write-heading .last .0)
-front c =
-    let a = start (c .before) .args in
-    let size = ap (λ s. heading s 2 (a .n)) (c .before .length-of .ensures) in
-    fronted-same (a .t .now) (c .write-heading .last .0) size (c .write-heading .ensures)
+abbrev heads : tie.After-write-record-arg → tie.After-write-heading
+heads c = c .before .before .before
 
-abbrev headed : tie.After-write-record-arg → tie.After-write-heading
-headed c = c .before .before .before
+abbrev start-heads : tie.After-write-record-arg → tie.Start
+start-heads c = start (heads c .before)
 
-abbrev start-headed : tie.After-write-record-arg → tie.Start
-start-headed c = start (headed c .before)
+length-first : (c : tie.After-write-record) → length (c .write-record .last .0) ≡ length (start-heads (c .before) .args .t .now)
+length-first c = c .write-record .kept .0 ∙ heads (c .before) .write-heading .kept .0
 
-length-first : (c : tie.After-write-record) → length (c .write-record .last .0) ≡ length (start-headed (c .before) .args .t .now)
-length-first c = c .write-record .kept .0 ∙ headed (c .before) .write-heading .kept .0
-
-front-first : (c : tie.After-write-record) → let a = start-headed (c .before) .args in
+front-first : (c : tie.After-write-record) → let a = start-heads (c .before) .args in
     Fronted (heading (lengthOf 2 (a .n)) 2 (a .n) ++ recordBytes (a .n) (recordIn (a .newest))) (a .t .now) (c .write-record .last .0)
 front-first c =
-    let h = headed (c .before) in
+    let h = heads (c .before) in
     let a = start (h .before) .args in
-    fronted-record (a .n) (heading (lengthOf 2 (a .n)) 2 (a .n)) (recordIn (a .newest)) (a .t .now) (h .write-heading .last .0)
-    (c .write-record .last .0) 5 refl (front h) (c .write-record .ensures)
+    let l = h .write-heading .last .0 in
+    let front = headed 2 (a .n) (a .t .now) l (h .before .length-of .ensures) (h .write-heading .ensures) in
+    fronted-record (a .n) (heading (lengthOf 2 (a .n)) 2 (a .n)) (recordIn (a .newest)) (a .t .now) l (c .write-record .last .0) 5 refl
+    front (c .write-record .ensures)
 
 abbrev first : tie.After-write-record-arg2 → tie.After-write-record
 first c = c .before .before .before
@@ -53,13 +48,13 @@ write-heading-requires c κs =
 
 write-record-requires : tie.Need-write-record-requires
 write-record-requires c κs =
-    let s = start-headed c in
-    (s .pre .1 .0, (omega (arith, headed c .write-heading .kept .0), s .pre .1 .1 .1 .0))
+    let s = start-heads c in
+    (s .pre .1 .0, (omega (arith, heads c .write-heading .kept .0), s .pre .1 .1 .1 .0))
 
 write-record-requires-2 : tie.Need-write-record-requires-2
 write-record-requires-2 c κs =
     let w = first (c .before) in
-    let s = start-headed (w .before) in
+    let s = start-heads (w .before) in
     (s .pre .1 .0, (omega (arith, c .second-at .ensures, length-first w), s .pre .1 .1 .1 .1))
 
 same-length : tie.Need-same-length
@@ -69,7 +64,7 @@ returns : tie.Need-returns
 returns c =
     let w = c .before .before in
     let f = first (w .before .before) in
-    let a = start-headed (f .before) .args in
+    let a = start-heads (f .before) .args in
     let front = heading (lengthOf 2 (a .n)) 2 (a .n) ++ recordBytes (a .n) (recordIn (a .newest)) in
     let place : w .before .second-at .result ≡ length front =
     omega (arith, w .before .second-at .ensures, length-recordBytes (a .n) (recordIn (a .newest))) in
