@@ -8,14 +8,14 @@ use mathlib.Core.Option.{Option, none}
 use lib.Dec.{eqb}
 use lib.ListN.{length}
 use borrow.Author.Tests.{eqb-true, ne-eqb}
-use Rattle.lists.specs.Functions.{inside, each}
+use Rattle.lists.specs.Functions.{inside, each, Within}
 use Rattle.lists.specs.Parts.{words}
 use Rattle.lists.proofs.Functions.{on, inside-low, inside-high, inside-in}
 use Rattle.lists.proofs.Refusals.{no-failure, number-refuses, stays}
 use Rattle.model.specs.Kinds.{concur}
 use Rattle.model.specs.Records.{Value, zeroValue}
 use Rattle.model.specs.RecordWords.{valueOf}
-use Rattle.model.specs.Numbers.{beginAnswer, deliverAnswer, crashAnswer}
+use Rattle.model.specs.Numbers.{fieldsNumber, beginAnswer, deliverAnswer, crashAnswer}
 use Rattle.model.specs.Member.{returnedBy}
 use Rattle.model.specs.Board.{Board, outcomeTaken, boardDelivered, boardReturned}
 use Rattle.model.specs.Runs.{Call, begin, deliver, crash, answerOf, done, doneReturns, after}
@@ -25,7 +25,6 @@ use Rattle.model.proofs.Answers.{deliver-taken}
 use Rattle.model.proofs.Steps.{board-phase}
 use Rattle.laws.proofs.Sound.{board-parts}
 use Rattle.laws.proofs.Tables.{table-back}
-use Rattle.checks.specs.Needs.{Within}
 use Rattle.member.specs.Results.{Taken, returnedIn}
 use Rattle.member.specs.declared.Outcome.{Outcome}
 use Rattle.tables.specs.Needs.{Table, Left}
@@ -178,7 +177,7 @@ module _ (n : ℕ) (l : List ℕ) (call : Call) (r : Outcome) where
 -- No member: number 4 of each call.
 module _ (n : ℕ) (b : Board) (i : ℕ) where
   pub no-begin : (r t : ℕ) (v : Value) → inside n i ≡ false → 4 ≡ answerOf concur n b (begin i r t v)
-  unfolding answerOf beginAnswer
+  unfolding answerOf beginAnswer fieldsNumber
   no-begin r t v p = rw p
 
   pub no-deliver : inside n i ≡ false → 4 ≡ answerOf concur n b (deliver i)

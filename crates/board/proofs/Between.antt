@@ -3,7 +3,7 @@ use Prim.Native.Nat.{ℕ}
 use mathlib.Core.Path.{_≡_, sym, ap, _∙_}
 use mathlib.Core.Bool.{Bool}
 use mathlib.Core.List.{List}
-use Rattle.lists.specs.Functions.{put, from, numbered}
+use Rattle.lists.specs.Functions.{put, from, numbered, Within}
 use Rattle.lists.proofs.Functions.{numbered-blank}
 use lib.ListN.{length, replicate}
 use Rattle.lists.specs.Parts.{words}
@@ -16,7 +16,6 @@ use Rattle.model.specs.Board.{Board, withMember, submitTaken, sentRecord, commi
 use Rattle.model.specs.Table.{blockSize, blockAt, hostSize, entryAt, firstAt, newestAt, storedAt, memberOf, entryOf, storedOf, hostOf, storedRecordsOf, boardOf}
 use Rattle.laws.proofs.Records.{within-read}
 use Rattle.laws.proofs.Tables.{member-at, entry-at, stored-at}
-use Rattle.checks.specs.Needs.{Within}
 use Rattle.member.specs.Results.{Taken}
 use Rattle.member.specs.declared.Outcome.{Outcome}
 use Rattle.member.specs.Needs.{Running}

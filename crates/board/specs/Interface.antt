@@ -11,7 +11,8 @@ use Rattle.model.specs.Records.{Value, zeroValue}
 use Rattle.model.specs.Runs.{Call, answerOf, done}
 use Rattle.model.specs.Table.{valueSize, tableSize, tableWords, tableNumber}
 use Rattle.model.specs.TableCalls.{boardIn, tableReturns}
-use Rattle.model.specs.Halves.{orElse, unlessRefused}
+use Rattle.model.specs.Numbers.{orElse}
+use Rattle.model.specs.Halves.{unlessRefused}
 
 -- how many words a table has: none where n is not 1 to 12
 unfoldable pub wordsFor : ℕ → ℕ

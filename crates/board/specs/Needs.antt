@@ -7,7 +7,7 @@ use Rattle.lists.specs.Parts.{words}
 use Rattle.model.specs.Kinds.{concur}
 use Rattle.model.specs.Runs.{Call, answerOf, after}
 use Rattle.model.specs.Table.{boardOf, soundBoard}
-use Rattle.checks.specs.Needs.{Within}
+use Rattle.lists.specs.Functions.{Within}
 use Rattle.tables.specs.Needs.{Table, Left}
 
 -- a table that passed its check

@@ -25,7 +25,7 @@ use member::steps::crash_refusal;
 use member::steps::deliver_refusal;
 use member::steps::mark_crashed;
 use member::steps::phase_of;
-use records::is_numbered;
+use rules::is_numbered;
 use tables::steps::block_at;
 
 pub fn begin_on(

@@ -13,8 +13,9 @@ use crate::calls::deliver_on;
 use crate::crash;
 use crate::open;
 use crate::steps::hand_out;
-use records::is_numbered;
 use records::steps::load_value;
+use rules::MOST_MEMBERS;
+use rules::is_numbered;
 use tables::check::table_number;
 use tables::steps::table_size;
 
@@ -22,7 +23,7 @@ use tables::steps::table_size;
 pub extern "C" fn concur_board_words(n: u32) -> u32
     ensures { λ r. ⌜ r ≡ wordsFor n ⌝ }
 {
-    if !is_numbered(n, 12) {
+    if !is_numbered(n, MOST_MEMBERS) {
         return 0;
     }
     table_size(n as usize) as u32

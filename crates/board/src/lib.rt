@@ -20,7 +20,8 @@ use calls::crash_on;
 use calls::deliver_on;
 use calls::nothing;
 use member::Outcome;
-use records::is_numbered;
+use rules::MOST_MEMBERS;
+use rules::is_numbered;
 use tables::check::table_number;
 use tables::steps::open_all;
 use tables::steps::table_size;
@@ -30,7 +31,7 @@ pub fn open(table: &mut [u32], n: u32) -> u32
     ensures { λ r. ⌜ r ≡ openNumber concur n (now (table .entry)) ⌝ }
     ensures { λ _. ⌜ now (table .exit) ≡ openWords concur n (now (table .entry)) ⌝ }
 {
-    if !is_numbered(n, 12) {
+    if !is_numbered(n, MOST_MEMBERS) {
         return 1;
     }
     if table.len() != table_size(n as usize) {

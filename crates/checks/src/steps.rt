@@ -7,7 +7,7 @@ ghost use Rattle.model.specs.Rows.{comparable as comparableOf};
 ghost use Rattle.model.specs.Records.{matrixWithin};
 ghost use Rattle.model.specs.Member.{check22, check23, check25, check26, check27, joined};
 ghost use Rattle.rows.specs.Meaning.{rowIn, matrixIn};
-ghost use Rattle.checks.specs.Needs.{Within};
+ghost use Rattle.lists.specs.Functions.{Within};
 use rows::Row;
 use rows::matrix_below;
 

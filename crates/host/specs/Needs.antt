@@ -3,11 +3,8 @@
 use Prim.Native.Nat.{ℕ, _+_, _≤_}
 use mathlib.Core.Path.{_≡_}
 use mathlib.Core.List.{List}
-use mathlib.Core.Bool.{cond, not}
 use lib.ListN.{length}
-use Rattle.lists.specs.Functions.{inside}
 use Rattle.lists.specs.Pieces.{place}
-use Rattle.model.specs.Kinds.{isOperation, barred}
 use Rattle.model.specs.Table.{entrySize, hostSize}
 
 -- the n host entries of a board of n
@@ -32,12 +29,3 @@ pub record EntryPlace (n r at : ℕ) : Type 0 where
   pub begins : at ≡ place (entrySize n) r
   pub ends : at + entrySize n ≤ hostSize n
   pub small : hostSize n ≤ 3768
-
--- the grounds 4 to 7 by the fields of a submit or of a record: the last part of hostNumber
-abbrev pub fieldsNumber : ℕ → ℕ → ℕ → ℕ → ℕ
-fieldsNumber n i r t =
-    cond (not (inside n i)) 4
-    (cond (not (inside n r)) 5
-    (cond (not (isOperation t)) 6
-    (cond (barred i r t) 7
-    0)))

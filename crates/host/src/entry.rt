@@ -15,12 +15,12 @@ use crate::layout::SUBMIT_COUNT_AT;
 use crate::layout::SUBMIT_MEMBER_AT;
 use crate::layout::newest_at;
 use records::Record;
-use records::WRITE;
 use records::steps::copy_down;
 use records::steps::load_record;
 use records::steps::record_size;
 use records::steps::sound_record;
 use records::steps::store_record;
+use rules::WRITE;
 
 // The entry with the mark of a submit; the reply is its newest and stored records.
 pub fn submit_entry(entry: &mut [u32], n: usize, member: u32, count: u32) -> Reply

@@ -5,12 +5,11 @@ ghost use lib.ListN.{length};
 ghost use Rattle.lists.specs.Parts.{words};
 ghost use Rattle.model.specs.Table.{hostOf, storedRecordsOf, entriesNumber};
 ghost use Rattle.model.specs.Halves.{hostNumber};
-ghost use Rattle.host.specs.Needs.{fieldsNumber};
 use crate::steps::host_size;
 use crate::steps::sound_entries;
-use records::is_barred;
-use records::is_numbered;
-use records::is_operation;
+use rules::MOST_MEMBERS;
+use rules::fields_number;
+use rules::is_numbered;
 
 // 2 and 3: the entries' length and their fields.
 fn entries_number(entries: &[u32], n: u32) -> u32
@@ -26,29 +25,11 @@ fn entries_number(entries: &[u32], n: u32) -> u32
     0
 }
 
-// 4 to 7: the fields of a submit or of a record.
-fn fields_number(n: u32, member: u32, slot: u32, operation: u32) -> u32
-    ensures { λ r. ⌜ r ≡ fieldsNumber n member slot operation ⌝ }
-{
-    if !is_numbered(member, n) {
-        return 4;
-    }
-    if !is_numbered(slot, n) {
-        return 5;
-    }
-    if !is_operation(operation) {
-        return 6;
-    }
-    if is_barred(member, slot, operation) {
-        return 7;
-    }
-    0
-}
-
+// Then 4 to 7, by the fields of a submit or of a record.
 pub fn host_number(entries: &[u32], n: u32, member: u32, slot: u32, operation: u32) -> u32
     ensures { λ r. ⌜ r ≡ hostNumber n (now (entries .entry)) member slot operation ⌝ }
 {
-    if !is_numbered(n, 12) {
+    if !is_numbered(n, MOST_MEMBERS) {
         return 1;
     }
     let number = entries_number(entries, n);

@@ -1,6 +1,6 @@
 -- Functions of an index: how words, rows and matrices are written in every specification. A function has no length, so that a
 -- definition says only what stands where.
-use Prim.Native.Nat.{ℕ, zero, suc, _+_, _-_}
+use Prim.Native.Nat.{ℕ, zero, suc, _+_, _-_, _≤_}
 use mathlib.Core.Bool.{Bool, true, false, cond, _&&_}
 use lib.Dec.{eqb, leb, ltb}
 
@@ -20,6 +20,11 @@ module _ {A : Type 0} where
 -- is k one of 1 to n
 unfoldable pub inside : ℕ → ℕ → Bool
 inside n k = leb 1 k && leb k n
+
+-- the same, known of k
+pub record Within (n k : ℕ) : Type 0 where
+  pub least : 1 ≤ k
+  pub most : k ≤ n
 
 module _ {A : Type 0} where
   -- f on 1 to n, and d elsewhere

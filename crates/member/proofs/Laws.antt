@@ -7,7 +7,7 @@ use mathlib.Core.List.{List}
 use lib.Dec.{eqb}
 use borrow.Author.Tests.{eq-eqb, ne-eqb}
 use lib.ListN.{take, drop, set, replicate}
-use Rattle.lists.specs.Functions.{put, pasted, from, within}
+use Rattle.lists.specs.Functions.{put, pasted, from, within, Within}
 use Rattle.lists.specs.Parts.{words, replaced}
 use Rattle.lists.proofs.Functions.{apart, put-at, put-off, from-from, from-pasted-at}
 use Rattle.model.specs.Records.{Rec, read, write, matrixWithin, recordWithin}
@@ -22,7 +22,6 @@ use Rattle.rows.specs.declared.Row.{Row}
 use Rattle.rows.specs.Meaning.{matrixIn}
 use Rattle.records.specs.Meaning.{recordIn}
 use Rattle.records.proofs.Laws.{zero-value}
-use Rattle.checks.specs.Needs.{Within}
 use Rattle.member.specs.Needs.{Block, Running}
 use Rattle.member.specs.Layout.{LayoutOf}
 use Rattle.member.specs.declared.layout.Places.{Places}

@@ -7,7 +7,7 @@ use native.Mathlib.Omega.{arith}
 use lib.Dec.{eqb, leb}
 use lib.ListN.{length}
 use borrow.Author.Tests.{eq-eqb, ne-eqb, eqb-true, leb-true, leb-false, not-false}
-use Rattle.lists.specs.Functions.{inside}
+use Rattle.lists.specs.Functions.{inside, Within}
 use Rattle.lists.specs.Parts.{words}
 use Rattle.lists.proofs.Functions.{first, second, inside-low, inside-high}
 use Rattle.lists.proofs.Refusals.{no-ground, no-failure, no-number, number-refuses, number-passes, regrouped, becomes}
@@ -15,10 +15,10 @@ use Rattle.model.specs.Records.{Rec}
 use Rattle.model.specs.Kinds.{concur, isOperation, barred}
 use Rattle.model.specs.Member.{Member}
 use Rattle.model.specs.Table.{blockSize, memberOf, memberWords, soundRecord, soundOperation, soundMember, blockNumber}
-use Rattle.model.specs.Halves.{orElse, unlessRefused, fitRecord, memberNumber, memberBeginNumber, notWaiting, replyNumber, outcomeNumber, memberCrashNumber}
+use Rattle.model.specs.Numbers.{orElse}
+use Rattle.model.specs.Halves.{unlessRefused, fitRecord, memberNumber, memberBeginNumber, notWaiting, replyNumber, outcomeNumber, memberCrashNumber}
 use Rattle.model.proofs.Answers.{begin-taken}
 use Rattle.laws.proofs.Blocks.{member-back}
-use Rattle.checks.specs.Needs.{Within}
 use Rattle.member.specs.Needs.{Block, Running}
 
 -- A call's number that also makes the test of number 10: refused by it, or answered by the grounds behind it.

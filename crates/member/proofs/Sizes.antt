@@ -3,12 +3,11 @@ use Prim.Native.Nat.{ℕ, _+_, _-_, _*_, _≤_}
 use mathlib.Core.Path.{_≡_, ap, _∙_}
 use mathlib.Core.List.{List}
 use native.Mathlib.Omega.{arith}
-use Rattle.lists.specs.Functions.{from}
+use Rattle.lists.specs.Functions.{from, Within}
 use Rattle.lists.specs.Parts.{words}
 use Rattle.model.specs.RecordWords.{recordSize, rowOf}
 use Rattle.model.specs.Table.{ownAt, acceptedAt, lastAt, pendingAt, knownAt, firstAt, secondAt, blockSize, slotAt, memberOf}
 use Rattle.laws.proofs.Records.{rowOf-at}
-use Rattle.checks.specs.Needs.{Within}
 use Rattle.member.specs.Needs.{Running}
 
 pub head-room : (n : ℕ) → 5 ≤ blockSize n

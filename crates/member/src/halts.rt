@@ -3,7 +3,7 @@ ghost use mathlib.Core.Path.{_≡_};
 ghost use Rattle.lists.specs.Parts.{words};
 ghost use Rattle.model.specs.Member.{haltNumber};
 ghost use Rattle.model.specs.Table.{memberOf};
-ghost use Rattle.checks.specs.Needs.{Within};
+ghost use Rattle.lists.specs.Functions.{Within};
 ghost use Rattle.rows.specs.Meaning.{matrixIn};
 ghost use Rattle.records.specs.Meaning.{recordIn};
 ghost use Rattle.member.specs.Needs.{Running};

@@ -9,7 +9,6 @@ ghost use Rattle.model.specs.Halves.{memberBeginNumber, memberBeginWords, reply
 ghost use Rattle.records.specs.Meaning.{recordIn};
 ghost use Rattle.member.specs.Results.{returnedIn};
 
-pub mod answers;
 mod halts;
 mod layout;
 mod marks;

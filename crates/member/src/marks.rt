@@ -4,8 +4,8 @@ ghost use mathlib.Core.Bool.{not, _&&_, _||_};
 ghost use lib.Dec.{eqb, leb};
 ghost use Rattle.lists.specs.Functions.{inside};
 ghost use Rattle.model.specs.Kinds.{barred};
-use records::is_barred;
-use records::is_numbered;
+use rules::is_barred;
+use rules::is_numbered;
 
 // Are phase, crash mark and halt number in range?
 pub fn sound_marks(phase: u32, crashed: u32, halt: u32) -> bool

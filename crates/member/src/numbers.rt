@@ -5,7 +5,8 @@ ghost use Rattle.lists.specs.Parts.{words};
 ghost use Rattle.model.specs.Kinds.{concur};
 ghost use Rattle.model.specs.Records.{recordWithin};
 ghost use Rattle.model.specs.Table.{memberOf};
-ghost use Rattle.model.specs.Halves.{orElse, notWaiting, memberNumber, memberBeginNumber, replyNumber, outcomeNumber, memberCrashNumber};
+ghost use Rattle.model.specs.Numbers.{orElse};
+ghost use Rattle.model.specs.Halves.{notWaiting, memberNumber, memberBeginNumber, replyNumber, outcomeNumber, memberCrashNumber};
 ghost use Rattle.records.specs.Meaning.{recordIn};
 use crate::layout::CRASHED_AT;
 use crate::layout::PHASE_AT;
@@ -14,13 +15,14 @@ use crate::steps::begin_refusal;
 use crate::steps::crash_refusal;
 use crate::steps::sound_block;
 use records::Record;
-use records::is_numbered;
+use rules::MOST_MEMBERS;
+use rules::is_numbered;
 
 // 1, 2, 3, 4: the board's size, the block, the member.
 fn member_number(block: &[u32], n: u32, member: u32) -> u32
     ensures { λ r. ⌜ r ≡ memberNumber n member (now (block .entry)) ⌝ }
 {
-    if !is_numbered(n, 12) {
+    if !is_numbered(n, MOST_MEMBERS) {
         return 1;
     }
     let at = layout(n as usize);

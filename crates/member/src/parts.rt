@@ -4,7 +4,7 @@ ghost use mathlib.Core.Bool.{cond};
 ghost use Prim.Native.Nat.{_+_, _≤_};
 ghost use lib.Dec.{eqb};
 ghost use lib.ListN.{length};
-ghost use Rattle.lists.specs.Functions.{from};
+ghost use Rattle.lists.specs.Functions.{from, Within};
 ghost use Rattle.lists.specs.Parts.{words};
 ghost use Rattle.model.specs.Records.{write, recordWithin};
 ghost use Rattle.model.specs.RecordWords.{valueOf};
@@ -12,7 +12,6 @@ ghost use Rattle.model.specs.Member.{moved, ownRecord, passed, failed, dropped,
 ghost use Rattle.model.specs.Table.{memberOf};
 ghost use Rattle.rows.specs.Meaning.{matrixIn};
 ghost use Rattle.records.specs.Meaning.{recordIn};
-ghost use Rattle.checks.specs.Needs.{Within};
 ghost use Rattle.member.specs.Needs.{Block, Running};
 use crate::layout::HALT_AT;
 use crate::layout::OPERATION_AT;
@@ -22,7 +21,6 @@ use crate::layout::SLOT_AT;
 use crate::layout::layout;
 use checks::steps::joined_matrix;
 use records::Record;
-use records::WRITE;
 use records::steps::MATRIX_AT;
 use records::steps::clear;
 use records::steps::copy_down;
@@ -30,6 +28,7 @@ use records::steps::load_value;
 use records::steps::record_size;
 use records::steps::store_record;
 use rows::Row;
+use rules::WRITE;
 
 // The value that an operation carries: the given one for a write, the last accepted own one, which lies at `last`, for a read.
 pub fn carried(block: &[u32], last: usize, operation: u32, value: [u32; 8]) -> [u32; 8]

@@ -10,13 +10,10 @@ ghost use Rattle.model.specs.Numbers.{beginAnswer, deliverAnswer, crashAnswer};
 ghost use Rattle.model.specs.Board.{sentRecord};
 ghost use Rattle.model.specs.Table.{blockSize, memberOf, soundMember};
 ghost use Rattle.records.specs.Meaning.{recordIn};
-ghost use Rattle.checks.specs.Needs.{Within};
+ghost use Rattle.lists.specs.Functions.{Within};
 ghost use Rattle.member.specs.Needs.{Block, Running};
 ghost use Rattle.member.specs.Results.{Taken};
 use crate::Outcome;
-use crate::answers::begin_answer;
-use crate::answers::crash_answer;
-use crate::answers::deliver_answer;
 use crate::halts::halt_number;
 use crate::layout::CRASHED_AT;
 use crate::layout::HALT_AT;
@@ -34,9 +31,7 @@ use crate::parts::note;
 use crate::parts::pass;
 use crate::parts::pass_noted;
 use crate::parts::take_over;
-use records::READ;
 use records::Record;
-use records::is_numbered;
 use records::steps::MATRIX_AT;
 use records::steps::VALUE_AT;
 use records::steps::load_matrix;
@@ -44,6 +39,11 @@ use records::steps::load_record;
 use records::steps::load_value;
 use records::steps::sound_record;
 use records::steps::store_value;
+use rules::READ;
+use rules::begin_answer;
+use rules::crash_answer;
+use rules::deliver_answer;
+use rules::is_numbered;
 
 // A submit: the operation's slot and own count.
 pub struct Submit {

@@ -10,8 +10,8 @@ ghost use Rattle.model.specs.Messages.{lengthOf, messageFrom, fitMessage, right
 use message_bytes::steps::RECORD_AT;
 use message_bytes::steps::second_at;
 use message_bytes::steps::wide;
-use records::is_fit;
-use records::is_numbered;
+use rules::is_fit;
+use rules::is_numbered;
 use steps::length_of;
 
 pub mod steps;

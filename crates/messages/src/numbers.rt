@@ -8,8 +8,8 @@ use message_numbers::OUTCOME;
 use message_numbers::REPLY;
 use message_numbers::SUBMIT;
 use message_numbers::steps::length_of;
-use records::is_fit;
-use records::is_numbered;
+use rules::is_fit;
+use rules::is_numbered;
 
 // Is there a message of a kind, with its fields as number 15 wants them?
 fn message_fits(message: Message, n: u32) -> bool

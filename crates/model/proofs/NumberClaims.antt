@@ -12,7 +12,7 @@ use borrow.Author.Tests.{eqb-true, eqb-false, eq-eqb, ne-eqb, leb-true, leb-fals
 use Rattle.lists.specs.Functions.{inside}
 use Rattle.lists.proofs.Functions.{on, apart, inside-in, inside-low, inside-high}
 use Rattle.model.specs.Kinds.{Kind, concur, isOperation, barred}
-use Rattle.model.specs.Numbers.{beginAnswer, deliverAnswer, crashAnswer}
+use Rattle.model.specs.Numbers.{fieldsNumber, beginAnswer, deliverAnswer, crashAnswer}
 use Rattle.model.specs.NumberClaims.{OneTo, Barred, Allowed, NothingToDeliver, BeginNumbers, DeliverNumbers, CrashNumbers}
 use Rattle.model.specs.NumberClaims.{NumbersAsListed}
 
@@ -171,7 +171,7 @@ module _ (kind : Kind) (n phase crashed count i r t : ℕ) where
       (λ p. inl (none-such n i p))
 
   begin-gives : Give (beginAnswer kind n phase crashed count i r t) begin-rows
-  unfolding Give beginAnswer
+  unfolding Give beginAnswer fieldsNumber
   begin-gives =
       let bars = barred-tested i r t in
       let allows = allowed-tested i r t in

@@ -10,23 +10,19 @@ use lib.ListN.{length}
 use Rattle.lists.specs.Functions.{put, inside}
 use Rattle.lists.specs.Parts.{words}
 use Rattle.model.specs.Records.{Value, Rec}
-use Rattle.model.specs.Kinds.{Kind, isSize, isOperation, barred}
-use Rattle.model.specs.Numbers.{beginAnswer, crashAnswer}
+use Rattle.model.specs.Kinds.{Kind, isSize, fitFields}
+use Rattle.model.specs.Numbers.{orElse, fieldsNumber, beginAnswer, crashAnswer}
 use Rattle.model.specs.Member.{Member, begun, replied, outcome, returnedBy, crashedOf}
 use Rattle.model.specs.Host.{submitted, wins, entryAfter, storedAfter}
 use Rattle.model.specs.Table.{memberOf, memberWords, blockNumber, hostOf, storedRecordsOf, hostWords, entriesNumber}
-
--- the first ground that holds: "Checks go down the table."
-abbrev pub orElse : ℕ → ℕ → ℕ
-orElse number rest = cond (eqb number 0) rest number
 
 -- "Each leaves all that was lent as before and returns only its number"
 abbrev pub unlessRefused : ℕ → List ℕ → List ℕ → List ℕ
 unlessRefused number before changed = cond (eqb number 0) changed before
 
--- the fields of a record that came in a message: "15 .. member or slot not 1 to n, type"
+-- of a record that came in a message
 unfoldable pub fitRecord : ℕ → Rec → Bool
-fitRecord n r = inside n (r .member) && inside n (r .slot) && isOperation (r .operation)
+fitRecord n r = fitFields n (r .member) (r .slot) (r .operation)
 
 -- The member half, on the words l of member i's block.
 
@@ -95,11 +91,7 @@ unfoldable pub hostNumber : ℕ → List ℕ → ℕ → ℕ → ℕ → ℕ
 hostNumber n l i r t =
     orElse (cond (not (isSize n)) 1 0)
     (orElse (entriesNumber n (length l) (hostOf n (words l)) (storedRecordsOf n (words l)))
-    (cond (not (inside n i)) 4
-    (cond (not (inside n r)) 5
-    (cond (not (isOperation t)) 6
-    (cond (barred i r t) 7
-    0)))))
+    (fieldsNumber n i r t))
 
 -- a submit by member i, on slot r, of type t, with its own count; the reply is the slot's newest and stored records
 unfoldable pub submitWords : ℕ → List ℕ → ℕ → ℕ → ℕ → ℕ → List ℕ

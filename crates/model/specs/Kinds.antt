@@ -1,8 +1,9 @@
 -- The kind of board: what may differ between boards that share all their steps. An opening looks at its `most`, a begin at its `limit`,
 -- and no other step at anything of it; runs, the reference and the theorems are stated for every kind. Below it, the rules that are the
--- same for all kinds: the sizes of boards, what is an operation, what number 7 refuses, what becomes stored.
+-- same for all kinds: the sizes of boards, what is an operation, which fields fit, what number 7 refuses, what becomes
+-- stored.
 use Prim.Native.Nat.{ℕ, _≤_}
-use mathlib.Core.Bool.{Bool, cond, not, _||_}
+use mathlib.Core.Bool.{Bool, cond, not, _&&_, _||_}
 use native.Mathlib.Omega.{arith}
 use lib.Dec.{eqb}
 use Rattle.lists.specs.Functions.{inside}
@@ -29,6 +30,10 @@ concur = record { limit = 4294967295; most = mostMembers; sized = omega arith }
 -- "type not 1 or 2" is number 6
 unfoldable pub isOperation : ℕ → Bool
 isOperation t = eqb t read || eqb t write
+
+-- the fields of what comes in a message: "15 .. member or slot not 1 to n, type"
+abbrev pub fitFields : ℕ → ℕ → ℕ → ℕ → Bool
+fitFields n i r t = inside n i && inside n r && isOperation t
 
 -- what number 7 refuses: "a write to another's slot or a read of one's own"
 unfoldable pub barred : ℕ → ℕ → ℕ → Bool

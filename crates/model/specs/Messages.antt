@@ -10,7 +10,7 @@ use Rattle.lists.specs.Functions.{from, inside, each}
 use Rattle.lists.specs.Parts.{words, tabulate}
 use Rattle.model.specs.Records.{Rec, recordWithin}
 use Rattle.model.specs.RecordWords.{recordOf, recordWords}
-use Rattle.model.specs.Kinds.{isSize, isOperation}
+use Rattle.model.specs.Kinds.{isSize, fitFields}
 use Rattle.model.specs.Halves.{fitRecord}
 
 pub data Message : Type 0 where
@@ -100,7 +100,7 @@ messageFrom n b =
 
 -- "15 .. member or slot not 1 to n, type, outcome": no count and no matrix is refused, and number 7 is not asked
 unfoldable pub fitMessage : ℕ → Message → Bool
-fitMessage n (submit i r t count) = inside n i && inside n r && isOperation t
+fitMessage n (submit i r t count) = fitFields n i r t
 fitMessage n (reply newest stored) = fitRecord n newest && fitRecord n stored
 fitMessage n (commit r) = fitRecord n r
 fitMessage n (outcome o) = inside 2 o

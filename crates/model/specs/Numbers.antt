@@ -7,16 +7,26 @@ use lib.Dec.{eqb, leb}
 use Rattle.lists.specs.Functions.{inside}
 use Rattle.model.specs.Kinds.{Kind, isOperation, barred}
 
--- begin, by member i, on slot r, of type t
-unfoldable pub beginAnswer : Kind → ℕ → ℕ → ℕ → ℕ → ℕ → ℕ → ℕ → ℕ
-beginAnswer kind n phase crashed count i r t =
+-- the first ground that holds: "Checks go down the table."
+abbrev pub orElse : ℕ → ℕ → ℕ
+orElse number rest = cond (eqb number 0) rest number
+
+-- 4 to 7, of a begin and of what comes to the host: "no such member", "no such slot", "type not 1 or 2", and what 7 refuses
+unfoldable pub fieldsNumber : ℕ → ℕ → ℕ → ℕ → ℕ
+fieldsNumber n i r t =
     cond (not (inside n i)) 4
     (cond (not (inside n r)) 5
     (cond (not (isOperation t)) 6
     (cond (barred i r t) 7
+    0)))
+
+-- begin, by member i, on slot r, of type t: then "8 not in phase 0, or crashed", and 9
+unfoldable pub beginAnswer : Kind → ℕ → ℕ → ℕ → ℕ → ℕ → ℕ → ℕ → ℕ
+beginAnswer kind n phase crashed count i r t =
+    orElse (fieldsNumber n i r t)
     (cond (not (eqb phase 0) || not (eqb crashed 0)) 8
     (cond (leb (kind .limit) count) 9
-    0)))))
+    0))
 
 -- deliver, to or from member i: "10 phase 0 or 6; crashed in phase 2, 4 or 5"
 unfoldable pub deliverAnswer : ℕ → ℕ → ℕ → ℕ → ℕ

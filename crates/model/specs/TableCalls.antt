@@ -10,10 +10,11 @@ use Rattle.lists.specs.Functions.{inside, within}
 use Rattle.lists.specs.Parts.{words}
 use Rattle.model.specs.Records.{Value}
 use Rattle.model.specs.Kinds.{Kind}
+use Rattle.model.specs.Numbers.{orElse}
 use Rattle.model.specs.Board.{Board, opened}
 use Rattle.model.specs.Runs.{Call, Seen, answerOf, done, doneReturns}
 use Rattle.model.specs.Table.{tableSize, blockAt, phaseAt, boardOf, tableWords, tableNumber}
-use Rattle.model.specs.Halves.{orElse, unlessRefused}
+use Rattle.model.specs.Halves.{unlessRefused}
 
 -- "Opening makes checks 1 and 2 only, since it reads none of the old words."
 unfoldable pub openNumber : Kind → ℕ → List ℕ → ℕ

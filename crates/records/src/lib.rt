@@ -1,67 +1,18 @@
 // Records: what a member commits and the host keeps, by value and in table words.
 ghost use mathlib.Core.Path.{_≡_};
-ghost use mathlib.Core.Bool.{_&&_};
 ghost use Rattle.model.specs.Records.{opening as openingOf, zeroRecord};
-ghost use Rattle.lists.specs.Functions.{inside};
-ghost use Rattle.model.specs.Kinds.{isOperation, barred};
 ghost use Rattle.model.specs.Halves.{fitRecord};
 ghost use Rattle.records.specs.Meaning.{recordIn};
 use rows::Row;
+use rules::WRITE;
+use rules::is_fit;
 
 pub mod steps;
-
-// The types of operation.
-pub const READ: u32 = 1;
-
-pub const WRITE: u32 = 2;
-
-// Is k one of 1 to n?
-pub fn is_numbered(k: u32, n: u32) -> bool
-    ensures { λ r. ⌜ r ≡ inside n k ⌝ }
-{
-    if k < 1 {
-        return false;
-    }
-    k <= n
-}
-
-// Is it a type of operation?
-pub fn is_operation(operation: u32) -> bool
-    ensures { λ r. ⌜ r ≡ isOperation operation ⌝ }
-{
-    if operation == READ {
-        return true;
-    }
-    operation == WRITE
-}
-
-// What number 7 refuses: a write to another's slot or a read of one's own.
-pub fn is_barred(member: u32, slot: u32, operation: u32) -> bool
-    ensures { λ r. ⌜ r ≡ barred member slot operation ⌝ }
-{
-    if operation == WRITE {
-        return member != slot;
-    }
-    member == slot
-}
-
-// Are member and slot one of 1 to n, and is the type one? So a message's fields are judged.
-pub fn is_fit(member: u32, slot: u32, operation: u32, n: u32) -> bool
-    ensures { λ r. ⌜ r ≡ (inside n member && inside n slot && isOperation operation) ⌝ }
-{
-    if !is_numbered(member, n) {
-        return false;
-    }
-    if !is_numbered(slot, n) {
-        return false;
-    }
-    is_operation(operation)
-}
 
 pub struct Record {
     pub member: u32,
     pub slot: u32,
-    // READ or WRITE
+    // 1 read, 2 write
     pub operation: u32,
     pub count: u32,
     // document 01's sheet

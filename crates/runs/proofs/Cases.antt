@@ -15,7 +15,7 @@ use Rattle.lists.proofs.Functions.{first, second}
 use Rattle.model.specs.Rows.{zeroRow, zeroMatrix, below, matrixBelow, comparable, larger}
 use Rattle.model.specs.Records.{zeroValue, zeroRecord, opening}
 use Rattle.model.specs.Kinds.{isOperation, barred, becomesStored}
-use Rattle.model.specs.Numbers.{beginAnswer, deliverAnswer, crashAnswer}
+use Rattle.model.specs.Numbers.{fieldsNumber, beginAnswer, deliverAnswer, crashAnswer}
 use Rattle.model.specs.Member.{idle, begun, answered, check21, check22, check23, check24, check25, check26, check27, haltNumber, joined}
 use Rattle.model.specs.Member.{ownRecord, passed, failed, replied, judged, completed, tookOver, dropped, outcome, returnedBy, crashedOf}
 use Rattle.model.specs.Host.{submitted, wins, entryAfter, storedAfter}
@@ -37,7 +37,7 @@ use Rattle.runs.specs.Cases.{cases, example}
 
 pub all-pass : every holds cases ≡ true
 unfolding put from within inside each tabulate zeroRow zeroMatrix below matrixBelow comparable larger zeroValue zeroRecord opening
-    isOperation barred becomesStored beginAnswer deliverAnswer crashAnswer idle begun answered check21 check22 check23 check24
+    isOperation barred becomesStored fieldsNumber beginAnswer deliverAnswer crashAnswer idle begun answered check21 check22 check23 check24
     check25 check26 check27 haltNumber joined ownRecord passed failed replied judged completed tookOver dropped outcome returnedBy
     crashedOf submitted wins entryAfter storedAfter openingEntry opened withMember boardBegun submitTaken replyTaken sentRecord
     commitTaken outcomeTaken boardDelivered boardReturned boardCrashed answerOf done doneReturns after seenAt run left caller

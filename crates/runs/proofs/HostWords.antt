@@ -21,6 +21,7 @@ use Rattle.model.specs.Board.{noEntry}
 use Rattle.lists.specs.Every.{Every}
 use Rattle.model.specs.Table.{entrySize, hostSize, entryOf, storedOf, entryWords, hostOf, storedRecordsOf, hostWords, soundRecord}
 use Rattle.model.specs.Table.{soundEntry, soundHost, entriesNumber}
+use Rattle.model.specs.Numbers.{fieldsNumber}
 use Rattle.model.specs.Halves.{hostNumber, submitWords, submitNewest, submitStored, commitNumber, commitOutcome, commitWords}
 use Rattle.model.specs.Published.{Id, idOf, ToServer, submit, commit, submitR}
 use Rattle.model.specs.HostClaims.{Half, halfOpened, halfAfter, halfAnswer, halfAnswers, fits, idIn, allFit, eachOnce, noneWaiting}
@@ -87,7 +88,7 @@ none-holds true true true true = refl
 module _ (n : ℕ) (size : isSize n ≡ true) (h : Half) (k : Kept n h) where
   -- a call's number: none of its own words' grounds holds, so it is 0 exactly where the fields fit
   fields-number : (id : Id) → eqb (hostNumber n (wordsOf n h) (id .client) (id .reg) (id .operation)) 0 ≡ fits n id
-  unfolding hostNumber entriesNumber fits
+  unfolding hostNumber fieldsNumber entriesNumber fits
   fields-number id = rw (
     size,
     eq-eqb (length (wordsOf n h)) (hostSize n) (length-host n (h .host) (h .stored)),

@@ -4,7 +4,7 @@ use Rattle.lists.specs.Every.{Every}
 use Rattle.model.specs.Rows.{zeroRow, zeroMatrix, below, matrixBelow, comparable, larger, withCount}
 use Rattle.model.specs.Records.{zeroValue, opening, zeroRecord, recordWithin}
 use Rattle.model.specs.Kinds.{isOperation, barred, becomesStored}
-use Rattle.model.specs.Numbers.{beginAnswer, deliverAnswer, crashAnswer}
+use Rattle.model.specs.Numbers.{fieldsNumber, beginAnswer, deliverAnswer, crashAnswer}
 use Rattle.model.specs.Member.{idle, begun, answered, check21, check22, check23, check24, check25, check26, check27, haltNumber, joined, ownRecord, passed, failed, replied, judged, completed, tookOver, dropped, outcome, returnedBy, crashedOf}
 use Rattle.model.specs.Host.{submitted, wins, entryAfter, storedAfter}
 use Rattle.model.specs.Board.{noEntry, openingEntry, opened, withMember, boardBegun, submitTaken, replyTaken, sentRecord, commitTaken, outcomeTaken, boardDelivered, boardReturned, boardCrashed}
@@ -21,7 +21,7 @@ use Rattle.script.specs.Examples.{Holds, examples}
 
 pub every-example : Every Holds examples
 unfolding examples zeroRow zeroMatrix below matrixBelow comparable larger withCount zeroValue opening zeroRecord recordWithin isOperation barred
-    becomesStored beginAnswer deliverAnswer crashAnswer idle begun answered check21 check22 check23 check24 check25 check26
+    becomesStored fieldsNumber beginAnswer deliverAnswer crashAnswer idle begun answered check21 check22 check23 check24 check25 check26
     check27 haltNumber joined ownRecord passed failed replied judged completed tookOver dropped outcome returnedBy crashedOf submitted
     wins entryAfter storedAfter noEntry openingEntry opened withMember boardBegun submitTaken replyTaken sentRecord commitTaken
     outcomeTaken boardDelivered boardReturned boardCrashed answerOf done doneReturns after seenAt run recordSize rowOf matrixOf

@@ -10,7 +10,7 @@ use board::begin;
 use board::crash;
 use board::deliver;
 use member::Outcome;
-use records::is_numbered;
+use rules::is_numbered;
 use tables::steps::phase;
 
 const READ: u32 = 1;

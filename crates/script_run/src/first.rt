@@ -10,7 +10,7 @@ use crate::MOST_STEPS;
 use crate::Next;
 use crate::Progress;
 use board::open;
-use records::is_numbered;
+use rules::is_numbered;
 use script::parse_members;
 use script::steps::print_board;
 use script::steps::print_refused;

@@ -4,7 +4,7 @@ use native.Mathlib.Omega.{arith}
 use mathlib.Core.Path.{_≡_, sym, ap, _∙_}
 use mathlib.Core.List.{List, _++_}
 use lib.ListN.{length, take, drop, length-append, length-take, length-drop}
-use Rattle.lists.specs.Functions.{put}
+use Rattle.lists.specs.Functions.{put, Within}
 use Rattle.lists.specs.Parts.{words, replaced}
 use Rattle.lists.proofs.Functions.{pasted-below}
 use Rattle.lists.proofs.Parts.{words-replaced}
@@ -13,7 +13,6 @@ use Rattle.model.specs.Member.{Member}
 use Rattle.model.specs.Board.{Board, withMember}
 use Rattle.model.specs.Table.{blockSize, blockAt, hostAt, hostSize, tableSize, memberOf, hostOf, storedRecordsOf, boardOf, tableWords, soundHost}
 use Rattle.laws.proofs.Tables.{board-member-part, board-member-put, board-host-part, board-stored-part, board-host-put, table-back}
-use Rattle.checks.specs.Needs.{Within}
 use Rattle.member.specs.Needs.{Block, Running}
 use Rattle.host.specs.Needs.{Entries, Slot}
 use Rattle.tables.specs.Needs.{Table, Left, BlockPlace, HostPlace}

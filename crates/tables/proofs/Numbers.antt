@@ -7,12 +7,11 @@ use mathlib.Core.List.{List}
 use lib.Dec.{eqb}
 use lib.ListN.{length, List·getD-eq-default}
 use borrow.Author.Tests.{eq-eqb, ne-eqb}
-use Rattle.lists.specs.Functions.{inside, each}
+use Rattle.lists.specs.Functions.{inside, each, Within}
 use Rattle.lists.specs.Parts.{words}
 use Rattle.lists.proofs.Functions.{within-at, inside-in, inside-low, inside-high}
 use Rattle.model.specs.Table.{tableSize, blockAt, phaseAt, boardOf, tableNumber, soundMember, soundHost, soundBoard}
 use Rattle.model.specs.TableCalls.{phaseWords}
-use Rattle.checks.specs.Needs.{Within}
 use Rattle.tables.specs.Needs.{Table}
 
 -- the check of member i's block in the table

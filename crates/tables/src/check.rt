@@ -11,7 +11,8 @@ use host::steps::host_size;
 use host::steps::sound_entries;
 use member::steps::block_size;
 use member::steps::sound_block;
-use records::is_numbered;
+use rules::MOST_MEMBERS;
+use rules::is_numbered;
 
 // The n member blocks.
 fn sound_blocks(table: &[u32], n: u32) -> bool
@@ -48,7 +49,7 @@ pub fn table_number(table: &[u32]) -> u32
         return 3;
     }
     let n = table[0];
-    if !is_numbered(n, 12) {
+    if !is_numbered(n, MOST_MEMBERS) {
         return 3;
     }
     if table.len() != table_size(n as usize) {

@@ -5,7 +5,7 @@ ghost use lib.ListN.{length};
 ghost use Rattle.model.specs.Board.{opened};
 ghost use Rattle.model.specs.Table.{tableSize};
 ghost use Rattle.model.specs.TableCalls.{phaseWords};
-ghost use Rattle.checks.specs.Needs.{Within};
+ghost use Rattle.lists.specs.Functions.{Within};
 ghost use Rattle.tables.specs.Needs.{Table, Left, BlockPlace, HostPlace};
 use host::steps::host_size;
 use host::steps::open;

@@ -12,7 +12,7 @@ use Rattle.model.specs.Runs.{Call, answerOf, begin, done}
 use Rattle.model.specs.Table.{boardOf}
 use Rattle.model.proofs.Answers.{begin-taken}
 use Rattle.laws.proofs.Tests.{allowed, refused}
-use Rattle.checks.specs.Needs.{Within}
+use Rattle.lists.specs.Functions.{Within}
 use Rattle.tables.proofs.Lent.{BlockLent, block-lent, member-lent, step-left, whole-block}
 use Rattle.board.proofs.Answers.{count-room, no-begin, refuses, takes, within}
 use Rattle.board.proofs.calls.begin_on.Statement.{statement}

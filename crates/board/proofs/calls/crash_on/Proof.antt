@@ -10,7 +10,7 @@ use Rattle.model.specs.Board.{boardCrashed}
 use Rattle.model.specs.Runs.{Call, crash, answerOf, done}
 use Rattle.model.specs.Table.{boardOf}
 use Rattle.laws.proofs.Tests.{refused, allowed}
-use Rattle.checks.specs.Needs.{Within}
+use Rattle.lists.specs.Functions.{Within}
 use Rattle.tables.proofs.Lent.{BlockLent, block-lent, whole-block, member-lent, step-left}
 use Rattle.board.proofs.Answers.{within, refuses, takes, no-crash}
 use Rattle.board.proofs.calls.crash_on.Statement.{statement}

@@ -8,7 +8,7 @@ use Rattle.model.specs.Numbers.{deliverAnswer}
 use Rattle.model.specs.Runs.{Call, answerOf, deliver, done, doneReturns}
 use Rattle.model.specs.Table.{boardOf}
 use Rattle.laws.proofs.Tests.{allowed, refused}
-use Rattle.checks.specs.Needs.{Within}
+use Rattle.lists.specs.Functions.{Within}
 use Rattle.tables.proofs.Lent.{BlockLent, block-lent, member-lent, whole-block}
 use Rattle.board.proofs.Answers.{hands, hands-none, no-deliver, turn, within}
 use Rattle.board.proofs.calls.deliver_on.Statement.{statement}

@@ -10,7 +10,8 @@ use borrow.Author.Tests.{le-leb, lt-leb}
 use Rattle.lists.specs.Parts.{words}
 use Rattle.model.specs.Records.{Rec, recordWithin}
 use Rattle.model.specs.Table.{memberOf}
-use Rattle.model.specs.Halves.{orElse, fitRecord, memberNumber, notWaiting, replyNumber}
+use Rattle.model.specs.Numbers.{orElse}
+use Rattle.model.specs.Halves.{fitRecord, memberNumber, notWaiting, replyNumber}
 use Rattle.records.specs.Meaning.{recordIn}
 use Rattle.laws.proofs.Tests.{refused, allowed}
 use Rattle.member.proofs.Refusals.{refused-waiting, passed-waiting}

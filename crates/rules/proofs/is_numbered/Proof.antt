@@ -1,8 +1,8 @@
--- `is_numbered` meets its contract. Assumes nothing.
+-- `is_numbered` meets its contract: the two tests are the two of `inside`.
 use borrow.Author.Tests.{le-leb, lt-leb}
 use Rattle.lists.specs.Functions.{inside}
-use Rattle.records.proofs.is_numbered.Statement.{statement}
-use Rattle.records.proofs.is_numbered.Tie as tie
+use Rattle.rules.proofs.is_numbered.Statement.{statement}
+use Rattle.rules.proofs.is_numbered.Tie as tie
 
 returns : tie.Need-returns
 unfolding inside

@@ -1,8 +1,8 @@
--- `is_operation` meets its contract. Assumes nothing.
+-- `is_operation` meets its contract: the two tests are the two of the definition.
 use borrow.Author.Tests.{eq-eqb, ne-eqb}
 use Rattle.model.specs.Kinds.{isOperation}
-use Rattle.records.proofs.is_operation.Statement.{statement}
-use Rattle.records.proofs.is_operation.Tie as tie
+use Rattle.rules.proofs.is_operation.Statement.{statement}
+use Rattle.rules.proofs.is_operation.Tie as tie
 
 returns : tie.Need-returns
 unfolding isOperation

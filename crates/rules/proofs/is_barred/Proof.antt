@@ -1,8 +1,8 @@
--- `is_barred` meets its contract. Assumes nothing.
+-- `is_barred` meets its contract: the test is the definition's, and each branch answers what it compares.
 use borrow.Author.Tests.{eq-eqb, ne-eqb}
 use Rattle.model.specs.Kinds.{barred}
-use Rattle.records.proofs.is_barred.Statement.{statement}
-use Rattle.records.proofs.is_barred.Tie as tie
+use Rattle.rules.proofs.is_barred.Statement.{statement}
+use Rattle.rules.proofs.is_barred.Tie as tie
 
 returns : tie.Need-returns
 unfolding barred
