@@ -23,6 +23,11 @@ pub split-both {ℓ} : {A B : Type 0} (P : A → B → Type ℓ) (b : Bool) {x y
 split-both P true p q = p refl
 split-both P false p q = q refl
 
+-- Pairs in a row, nested to the right as `Every` nests them.
+infixr 4 _and_
+abbrev pub _and_ : {A B : Type 0} → A → B → A × B
+a and b = (a, b)
+
 -- The same of where i stands: before, in or after the k places from a on.
 pub by-place : {B : Type 0} (a k i : ℕ) → (i < a → B) → (a ≤ i → i < a + k → B) → (a + k ≤ i → B) → B
 by-place a k i before within after = on (leb a i)

@@ -1,4 +1,5 @@
--- Every run from the opening is seen as the reference says.
+-- Every run from the opening is seen as the reference says, and every reply in it passes the checks: the opening has the invariant
+-- (Invariant.antt), each step keeps it, and what is seen follows from it.
 use Prim.Native.Nat.{ℕ}
 use native.Mathlib.Nat.{le-refl}
 use native.Mathlib.Omega.{arith}
@@ -13,19 +14,19 @@ use Rattle.lists.proofs.Functions.{on, split-both, apart, put-at}
 use Rattle.model.specs.Rows.{zeroRow, zeroMatrix}
 use Rattle.model.specs.Records.{read, zeroValue, zeroRecord, opening}
 use Rattle.model.specs.Kinds.{Kind}
-use Rattle.model.specs.Member.{idle, outcome, returnedBy}
+use Rattle.model.specs.Member.{idle, dropped, outcome, returnedBy}
 use Rattle.model.specs.Host.{wins}
 use Rattle.model.specs.Board.{Board, noEntry, openingEntry, opened, sentRecord, commitTaken, outcomeTaken, boardReturned}
 use Rattle.model.specs.Runs.{Call, begin, deliver, crash, answerOf, doneReturns, after, seenAt, run, boards}
 use Rattle.model.specs.ReplyChecks.{CheckedAt, Checked}
-use Rattle.model.specs.Reference.{Reference, refIdle, refOpened, refReply, refCommit, refEnd, refReturned, refAnswer, refDone}
-use Rattle.model.specs.Reference.{refDoneReturns, refAfter, refSeen, refRun}
+use Rattle.model.specs.Reference.{Reference, refIdle, refEnded, refOpened, refReply, refCommit, refEnd, refReturned, refAnswer}
+use Rattle.model.specs.Reference.{refDone, refDoneReturns, refAfter, refSeen, refRun}
 use Rattle.model.proofs.Steps.{Taken, begins, submits, replies, commits, ends, crashes, taken, by-verdict, ref-phase}
 use Rattle.model.proofs.Order.{up, ≼-refl}
 use Rattle.model.proofs.Invariant.{SlotInv, Inv}
 use Rattle.model.proofs.Phases.{Delivers, step-moves, from-two}
-use Rattle.model.proofs.InvariantMember.{checks-pass, begin-keeps, reply-keeps, abort-keeps, completed-keeps, dropped-keeps}
-use Rattle.model.proofs.InvariantMember.{crash-keeps}
+use Rattle.model.proofs.InvariantMember.{at-rest, checks-pass, begin-keeps, reply-keeps, abort-keeps, completed-keeps}
+use Rattle.model.proofs.InvariantMember.{dropped-keeps, crash-keeps}
 use Rattle.model.proofs.InvariantHost.{submit-keeps, accept-keeps}
 
 -- The opening.
@@ -34,14 +35,19 @@ opening-slot : (n k : ℕ) → SlotInv n k (within n noEntry openingEntry k) (wi
 unfolding within noEntry openingEntry opening zeroRecord
 opening-slot n k = on (inside n k)
     (λ p. rw p (record { storedMember = λ q. refl; storedBelow = λ j. ≼-refl (zeroMatrix j); storedSame = refl; storedValue = refl }))
-    (λ p. rw p (record { storedMember = λ q. absurd (apart q p); storedBelow = λ j. ≼-refl (zeroMatrix j); storedSame = refl; storedValue = refl }))
+    (λ p. rw p (record {
+      storedMember = λ q. absurd (apart q p);
+      storedBelow = λ j. ≼-refl (zeroMatrix j);
+      storedSame = refl;
+      storedValue = refl;
+    }))
 
 opening-matrix : (n k : ℕ) → within n noEntry openingEntry k .newest .matrix ≡ zeroMatrix
 unfolding within noEntry openingEntry opening zeroRecord
 opening-matrix n k = on (inside n k) (λ p. rw p) (λ p. rw p)
 
 pub opened-inv : (n : ℕ) → Inv n (opened n) refOpened
-unfolding opened refOpened idle refIdle zeroMatrix zeroRow
+unfolding opened refOpened idle refIdle zeroMatrix zeroRow dropped refEnded
 opened-inv n = record {
   P = λ k a. a ≡ zeroRow;
   chain = λ k a c p q. up (rw (p, q) (≼-refl zeroRow));
@@ -49,28 +55,13 @@ opened-inv n = record {
   newest = λ k j. ap (λ m. m j) (opening-matrix n k);
   slots = opening-slot n;
   counts = λ k i. ap (λ m. m k i) (opening-matrix n k);
-  members = λ i. record {
-    phase = refl;
-    crashed = refl;
-    own = λ r. refl;
-    slot = refl;
-    operation = refl;
-    value = λ p. absurd (omega arith);
-    fine = omega arith;
-    order = λ r. le-refl 0;
-    knownTops = λ j. refl;
-    running = λ h. absurd (omega arith);
-    fresh = λ p. absurd (omega arith);
-    mark = λ g h. absurd (omega arith);
-    replied = λ p. absurd (omega arith);
-    current = λ p. absurd (omega arith);
-    committed = λ p. absurd (omega arith);
-    extends = λ p. absurd (omega arith);
-    accepted = λ p. absurd (omega arith);
-  };
+  members = λ i. at-rest (λ k a. a ≡ zeroRow) n i idle refIdle _ _ refl (λ r. refl) (λ r. le-refl 0) (λ j. refl);
 }
 
--- What a commit leaves is kept, by its verdict.
+same-phase : {n : ℕ} {b : Board} {ref : Reference} (inv : Inv n b ref) (i : ℕ) {p : ℕ} → b .members i .phase ≡ p → ref .members i .phase ≡ p
+same-phase inv i e = sym (inv .members i .phase) ∙ e
+
+-- A commit keeps it, by its verdict.
 commit-keeps : {n : ℕ} {b : Board} {ref : Reference} (inv : Inv n b ref) (i : ℕ) → b .members i .phase ≡ 3
     → Inv n (commitTaken b i) (refCommit ref i)
 unfolding refCommit wins sentRecord
@@ -92,20 +83,21 @@ module _ (kind : Kind) where
 
   -- A call that is answered 0, and any call.
 
-  taken-keeps : {n : ℕ} {b next : Board} {ref : Reference} {call : Call} → Taken kind n b call next → Inv n b ref → Inv n next (refDone ref call)
+  taken-keeps : {n : ℕ} {b next : Board} {ref : Reference} {call : Call} → Taken kind n b call next → Inv n b ref
+      → Inv n next (refDone ref call)
   unfolding refDone refReply refEnd outcomeTaken outcome
   taken-keeps (begins i r t v k) inv = begin-keeps inv i r t v k
-  taken-keeps {ref = ref} (submits i p e) inv = rw (ref-phase ref i 1 (sym (inv .members i .phase) ∙ e)) (submit-keeps inv i e)
-  taken-keeps {ref = ref} (replies i p e) inv = rw (ref-phase ref i 2 (sym (inv .members i .phase) ∙ e)) (reply-keeps inv i e)
-  taken-keeps {ref = ref} (commits i p e) inv = rw (ref-phase ref i 3 (sym (inv .members i .phase) ∙ e)) (commit-keeps inv i e)
+  taken-keeps {ref = ref} (submits i p e) inv = rw (ref-phase ref i 1 (same-phase inv i e)) (submit-keeps inv i e)
+  taken-keeps {ref = ref} (replies i p e) inv = rw (ref-phase ref i 2 (same-phase inv i e)) (reply-keeps inv i e)
+  taken-keeps {ref = ref} (commits i p e) inv = rw (ref-phase ref i 3 (same-phase inv i e)) (commit-keeps inv i e)
   taken-keeps {b = b} {ref = ref} (ends i p l six) inv =
       let m = b .members i in
       let fine = inv .members i .fine in
       on (eqb (m .phase) 4)
       (λ f. let e : m .phase ≡ 4 = eqb-true (m .phase) 4 f in
-      rw (f, ref-phase ref i 4 (sym (inv .members i .phase) ∙ e)) (completed-keeps inv i e))
+      rw (f, ref-phase ref i 4 (same-phase inv i e)) (completed-keeps inv i e))
       (λ f. let d : m .phase ≡ 4 → ⊥ = eqb-false (m .phase) 4 f in let e : m .phase ≡ 5 = omega arith in
-      rw (f, ref-phase ref i 5 (sym (inv .members i .phase) ∙ e)) (dropped-keeps inv i e))
+      rw (f, ref-phase ref i 5 (same-phase inv i e)) (dropped-keeps inv i e))
   taken-keeps (crashes i p) inv = crash-keeps inv i
 
   pub step-keeps : {n : ℕ} {b : Board} {ref : Reference} (inv : Inv n b ref) (call : Call)

@@ -1,4 +1,5 @@
--- Demand 3, for every kind of board, every n and every list of calls from the opening. Assumes nothing.
+-- Demand 3, for every kind of board, every n and every list of calls from the opening: what is seen is what the reference says, of
+-- which the history is proved.
 use Prim.Native.Nat.{ℕ}
 use mathlib.Core.List.{List}
 use Rattle.model.specs.Kinds.{Kind}

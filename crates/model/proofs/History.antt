@@ -1,4 +1,5 @@
--- The history's half of demand 3, of the reference alone, for every kind, every n and every list of calls. Assumes nothing.
+-- The history's half of demand 3, of the reference alone, for every kind, every n and every list of calls: the watcher and the
+-- reference agree after each call (HistorySteps.antt), and what is claimed follows from that.
 use Prim.Native.Nat.{ℕ}
 use mathlib.Core.Path.{_≡_, refl, ap}
 use mathlib.Core.Bool.{cond}

@@ -1,5 +1,5 @@
 -- What the reference and one who watches it agree on after every call: the invariant behind the history's half of demand 3.
--- Assumes nothing.
+-- Statements alone.
 use Prim.Native.Nat.{ℕ, _≤_, _<_}
 use mathlib.Core.Path.{_≡_}
 use mathlib.Core.Bool.{Bool, true, false, not}

@@ -1,5 +1,4 @@
 -- Laws of lists of operations and submits: the accepted ones among them, and the newest of a member ended.
--- Assumes nothing.
 use Prim.Native.Nat.{ℕ, _≤_, _<_}
 use mathlib.Core.Path.{_≡_, refl, sym, ap, _∙_}
 use mathlib.Core.Bool.{false, cond, _&&_, _||_}
@@ -84,7 +83,8 @@ module _ (i at : ℕ) (v : Option Value) where
   unfolding contested endedOp
   contested-ended o [] = refl
   contested-ended o (s ∷ submits) =
-      ap (λ t. (eqb (s .slot) (o .given .slot) && (ltb (o .submitAt) (s .at) && ltb (s .at) (o .verdictAt))) || t) (contested-ended o submits)
+      let within = ltb (o .submitAt) (s .at) && ltb (s .at) (o .verdictAt) in
+      ap (λ t. (eqb (s .slot) (o .given .slot) && within) || t) (contested-ended o submits)
 
   -- so whatever is computed from the accepted ones without looking at these two is as before
   kept : {A : Type 0} (f : List Op → A) → ((o : Op) (l m : List Op) → f l ≡ f m → f (o ∷ l) ≡ f (o ∷ m))

@@ -1,4 +1,4 @@
--- Each part of what the reference and its watcher agree on, a step later. Assumes nothing.
+-- Each part of what the reference and its watcher agree on, a step later: the running operations, the past ones, the book.
 use Prim.Native.Nat.{ℕ, _+_, _≤_}
 use mathlib.Core.Path.{_≡_, sym, ap, _∙_}
 use mathlib.Core.Bool.{Bool, true, false, cond, not, _||_}

@@ -1,5 +1,5 @@
--- Every step of the reference, and of its watcher, keeps what the two agree on.
--- Assumes nothing.
+-- Every step of the reference, and of its watcher, keeps what the two agree on: step by step (`agree-taken`), part by part
+-- (HistoryParts.antt).
 use Prim.Native.Nat.{ℕ, _+_, _≤_}
 use mathlib.Core.Path.{_≡_, refl, sym, ap, _∙_}
 use mathlib.Core.Bool.{Bool, true, false, cond, not}

@@ -1,8 +1,8 @@
 -- The host half is Algorithm 5's server. With document 01's 5.4 and 5.9 the operation that the newest submit of a slot names is the one
--- in Pnd and not in Abrt; and these two lines are the printed ones where each commit follows its own submit once. Assumes nothing.
+-- in Pnd and not in Abrt; and these two lines are the printed ones where each commit follows its own submit once.
 use Prim.Native.Nat.{ℕ, _≤_}
 use mathlib.Core.Path.{_≡_, refl, sym, ap, ap₂, _∙_}
-use mathlib.Core.Bool.{Bool, true, false, cond, not, _&&_, _||_}
+use mathlib.Core.Bool.{or-false, and-true, Bool, true, false, cond, not, _&&_, _||_}
 use mathlib.Core.List.{List, [], _∷_}
 use native.Mathlib.Omega.{arith}
 use lib.Dec.{eqb}
@@ -76,17 +76,9 @@ one-type i r t p q = on (eqb t write)
     (λ z. eqb-true t read z)
     (λ z. let y : false ≡ true = rw (z, w) at p in absurd (apart y refl)))))
 
-pub or-false : (t : Bool) → (t || false) ≡ t
-or-false true = refl
-or-false false = refl
-
 pub none-both : (t : Bool) → (t && not t) ≡ false
 none-both true = refl
 none-both false = refl
-
-pub and-true : (t : Bool) → (t && true) ≡ t
-and-true true = refl
-and-true false = refl
 
 -- whether an entry's newest submit is that of an id, for its slot: `wins` reads an operation so
 abbrev marks : Entry → Id → Bool

@@ -1,4 +1,5 @@
--- Steps that change the host: a submit taken, a commit accepted.
+-- The two steps that change the host keep the invariant, a submit taken and a commit accepted: of the member itself, of every other one
+-- (`bystander`), and of the slot.
 use Prim.Native.Nat.{ℕ, _≤_}
 use native.Mathlib.Omega.{arith}
 use mathlib.Core.Path.{_≡_, refl, sym, ap, _∙_}
@@ -258,7 +259,8 @@ module _ {n : ℕ} {b : Board} {ref : Reference} (inv : Inv n b ref) (i : ℕ) (
 
   -- whoever else is on the slot was overtaken by the winner
   accept-other : (s : Rec) (k : ℕ) → (k ≡ i → ⊥)
-      → MemberInv Q₃ n k (b .members k) (ref .members k) (put (b .host) r₃ entry₃ (b .members k .slot)) (put (b .stored) r₃ s (b .members k .slot))
+      → let r = b .members k .slot in
+      MemberInv Q₃ n k (b .members k) (ref .members k) (put (b .host) r₃ entry₃ r) (put (b .stored) r₃ s r)
   accept-other s k d =
       let old = inv .members k in
       let f = ref .members k in
@@ -355,7 +357,8 @@ module _ {n : ℕ} {b : Board} {ref : Reference} (inv : Inv n b ref) (i : ℕ) (
       (λ p. rw (p, ref-accept true p) (accepted-keeps sent (put (ref .values) r₃ (ref .members i .value)) history
       (new-slots sent (ref .members i .value) (slot-written (eqb-true (m₃ .operation) write p)))))
       (λ p. rw (p, ref-accept false p) (accepted-keeps (b .stored r₃) (ref .values) history
-      (λ k. rw (put-same (ref .values) r₃) at (new-slots (b .stored r₃) (ref .values r₃) (slot-read (eqb-false (m₃ .operation) write p)) k)))))
+      (λ k. rw (put-same (ref .values) r₃) at
+      (new-slots (b .stored r₃) (ref .values r₃) (slot-read (eqb-false (m₃ .operation) write p)) k)))))
     where
       history : List Operation
       history = operationOf i (ref .members i) ∷ ref .history

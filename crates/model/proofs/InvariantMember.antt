@@ -1,4 +1,5 @@
--- Steps that change one member and leave the host as it is: begin, the reply's checks, the outcome, a crash.
+-- The steps that change one member and leave the host as it is keep the invariant: begin, the reply, whose checks pass, an aborted commit,
+-- the outcome, a crash. Each by what it makes of the member (`touched`).
 use Prim.Native.Nat.{ℕ, _+_, _≤_}
 use native.Mathlib.Nat.{le-refl}
 use native.Mathlib.Omega.{arith}
@@ -19,7 +20,7 @@ use Rattle.model.specs.Host.{Entry}
 use Rattle.model.specs.Board.{Board, withMember, boardBegun, replyTaken, boardCrashed}
 use Rattle.model.specs.Reference.{RefMember, Reference, changed, refBegun, refMoved, refMarked, refAbort, refEnded, refWith}
 use Rattle.model.proofs.Rows.{larger-either}
-use Rattle.model.proofs.Order.{_≼_, ≼-raised, ≼-matrixBelow, ordered-comparable, larger-above}
+use Rattle.model.proofs.Order.{_≼_, Ordered, ≼-raised, ≼-matrixBelow, ordered-comparable, larger-above}
 use Rattle.model.proofs.Answers.{BeginTaken}
 use Rattle.model.proofs.Invariant.{Tops, countOn, marked, Replied, Current, Committed, Extends, Accepted, MemberInv, Inv}
 use Rattle.model.specs.Member
@@ -43,7 +44,8 @@ touched {n} {b} {ref} inv i m f h c = record {
 }
 
 -- A step within an operation, to phase p: what the phase asks is given, the rest is as it was.
-pub stepped : {P Q : Tops} {n i : ℕ} {m : Member} {f : RefMember} {e : Entry} {s : Rec} (p h : ℕ) (one two : Rec) (noted : Value) (e′ : Entry) (s′ : Rec)
+pub stepped : {P Q : Tops} {n i : ℕ} {m : Member} {f : RefMember} {e : Entry} {s : Rec}
+    (p h : ℕ) (one two : Rec) (noted : Value) (e′ : Entry) (s′ : Rec)
     → ((j : ℕ) (a : Row) → P j a → Q j a) → MemberInv P n i m f e s → 1 ≤ m .phase → 2 ≤ p → p ≤ 5
     → (p ≤ 3 → f .overtaken ≡ not (marked e′ i (m .own (m .slot))))
     → (p ≡ 2 → Replied Q i (m .slot) (m .accepted) (m .known) one two)
@@ -92,7 +94,7 @@ begin-keeps {kind} {n} {b} {ref} inv i r t v taken =
     (record {
       phase = refl;
       crashed = old .crashed;
-      own = λ k. ap (λ f. f k) (ap (λ f. put f r (m .own r + 1)) (own-same) ∙ ap (λ c. put (ref .members i .begins) r (c + 1)) (old .own r));
+      own = λ k. ap (λ f. put f r (f r + 1) k) own-same;
       slot = refl;
       operation = refl;
       value = λ e. rw (eq-eqb t write e);
@@ -134,86 +136,81 @@ either : (a : Bool) {b : Bool} → b ≡ true → (a || b) ≡ true
 either true h = refl
 either false h = h
 
-pub checks-pass : {n : ℕ} {b : Board} {ref : Reference} (inv : Inv n b ref) (i : ℕ) → b .members i .phase ≡ 2
-    → AllPass n i (b .members i)
-unfolding check21 check22 check23 check24 check25 check26 check27
-checks-pass {n} {b} {ref} inv i e = record {
-  pass21 = refl;
-  pass22 = each-all n (λ k. eqb k i || leb (m .known r k) (m .first .matrix r k))
-      (λ k p q. either (eqb k i) (le-leb (m .known r k) (m .first .matrix r k) (reply .knownBelow k)));
-  pass23 = eq-eqb (m .first .matrix r i) (m .accepted r) (reply .ownEntry);
-  pass24 = eq-eqb (m .second .member) r (reply .secondMember);
-  pass25 = rw (
-    ≼-matrixBelow n (m .second .matrix) (m .first .matrix) (reply .secondBelow),
-    eq-eqb (m .second .matrix r r) (m .first .matrix r r) (reply .secondSame),
-  );
-  pass26 = each-all n (λ j. eqb j r || comparable n (m .known j) (m .first .matrix j))
-      (λ j p q. either (eqb j r) (ordered-comparable n (m .known j) (m .first .matrix j)
-      (inv .chain j (m .known j) (m .first .matrix j) (old .knownTops j) (reply .firstTops j))));
-  pass27 = each-all n (λ j. eqb j r || leb (m .first .matrix j i) (m .accepted j))
-      (λ j p q. either (eqb j r) (le-leb (m .first .matrix j i) (m .accepted j)
-      (let h : m .first .matrix j i ≤ b .host j .newest .matrix j i = inv .top j (m .first .matrix j) (reply .firstTops j) i in
-      let c : b .host j .newest .matrix j i ≡ m .accepted j = inv .counts j i ∙ not-four j in omega arith)));
-}
-  where
-    m : Member
-    m = b .members i
+module _ {n : ℕ} {b : Board} {ref : Reference} (inv : Inv n b ref) (i : ℕ) (e : b .members i .phase ≡ 2) where
+  abbrev m₂ : Member
+  m₂ = b .members i
 
-    r : ℕ
-    r = b .members i .slot
+  abbrev r₂ : ℕ
+  r₂ = b .members i .slot
 
-    old : MemberInv (inv .P) n i (b .members i) (ref .members i) (b .host (b .members i .slot)) (b .stored (b .members i .slot))
-    old = inv .members i
+  old₂ : MemberInv (inv .P) n i m₂ (ref .members i) (b .host r₂) (b .stored r₂)
+  old₂ = inv .members i
 
-    reply : Replied (inv .P) i (m .slot) (m .accepted) (m .known) (m .first) (m .second)
-    reply = old .replied e
+  reply : Replied (inv .P) i r₂ (m₂ .accepted) (m₂ .known) (m₂ .first) (m₂ .second)
+  reply = old₂ .replied e
 
-    not-four : (k : ℕ) → countOn (b .members i) k ≡ b .members i .accepted k
-    not-four k = rw e
+  -- rows of one slot that have been tops are ordered
+  known-ordered : (j : ℕ) → Ordered (m₂ .known j) (m₂ .first .matrix j)
+  known-ordered j = inv .chain j (m₂ .known j) (m₂ .first .matrix j) (old₂ .knownTops j) (reply .firstTops j)
 
-pub reply-keeps : {n : ℕ} {b : Board} {ref : Reference} (inv : Inv n b ref) (i : ℕ) → b .members i .phase ≡ 2
-    → Inv n (replyTaken n b i) (refWith ref i (refMoved (ref .members i) 3))
-unfolding replyTaken replied passed ownRecord joined refMoved
-reply-keeps {n} {b} {ref} inv i e = rw (all-pass n i m (checks-pass inv i e))
-    (touched inv i (passed n i m (m .first) (m .second)) (refMoved (ref .members i) 3)
-    (stepped 3 (m .halt) (ownRecord n i m (m .first)) (m .second) (ref .members i .noted) _ _ (λ j a p. p) old (omega arith) (omega arith) (omega arith)
-    (λ q. old .mark (omega arith) (omega arith))
-    (λ q. absurd (omega arith))
-    (λ q. absurd (omega arith))
-    (λ q. record { otherTops = others; ownValue = refl })
-    (λ q o. record {
-      above = λ j. rw (← old .current e o .isNewest) (raises j);
-      row = rw (eq-eqb r r refl) (ap (λ c. put (c .matrix r) i (m .own r)) (old .current e o .isNewest));
-      isStored = old .current e o .isStored;
-    })
-    (λ q. absurd (omega arith)))
-    (λ k. rw e refl))
-  where
-    m : Member
-    m = b .members i
+  -- the newest record has of i no more than was accepted
+  own-small : (j : ℕ) → m₂ .first .matrix j i ≤ m₂ .accepted j
+  own-small j =
+      let h : m₂ .first .matrix j i ≤ b .host j .newest .matrix j i = inv .top j (m₂ .first .matrix j) (reply .firstTops j) i in
+      let c : b .host j .newest .matrix j i ≡ m₂ .accepted j = inv .counts j i ∙ rw e refl in
+      omega arith
 
-    r : ℕ
-    r = b .members i .slot
+  pub checks-pass : AllPass n i m₂
+  unfolding check21 check22 check23 check24 check25 check26 check27
+  checks-pass = record {
+    pass21 = refl;
+    pass22 = each-all n (λ k. eqb k i || leb (m₂ .known r₂ k) (m₂ .first .matrix r₂ k))
+        (λ k p q. either (eqb k i) (le-leb (m₂ .known r₂ k) (m₂ .first .matrix r₂ k) (reply .knownBelow k)));
+    pass23 = eq-eqb (m₂ .first .matrix r₂ i) (m₂ .accepted r₂) (reply .ownEntry);
+    pass24 = eq-eqb (m₂ .second .member) r₂ (reply .secondMember);
+    pass25 = rw (
+      ≼-matrixBelow n (m₂ .second .matrix) (m₂ .first .matrix) (reply .secondBelow),
+      eq-eqb (m₂ .second .matrix r₂ r₂) (m₂ .first .matrix r₂ r₂) (reply .secondSame),
+    );
+    pass26 = each-all n (λ j. eqb j r₂ || comparable n (m₂ .known j) (m₂ .first .matrix j))
+        (λ j p q. either (eqb j r₂) (ordered-comparable n (m₂ .known j) (m₂ .first .matrix j) (known-ordered j)));
+    pass27 = each-all n (λ j. eqb j r₂ || leb (m₂ .first .matrix j i) (m₂ .accepted j))
+        (λ j p q. either (eqb j r₂) (le-leb (m₂ .first .matrix j i) (m₂ .accepted j) (own-small j)));
+  }
 
-    old : MemberInv (inv .P) n i (b .members i) (ref .members i) (b .host (b .members i .slot)) (b .stored (b .members i .slot))
-    old = inv .members i
+  -- the matrix of the operation's record
+  abbrev new : Matrix
+  new = joined n i r₂ (m₂ .own r₂) (m₂ .known) (m₂ .first .matrix)
 
-    reply : Replied (inv .P) i (m .slot) (m .accepted) (m .known) (m .first) (m .second)
-    reply = old .replied e
+  others : (j : ℕ) → (j ≡ r₂ → ⊥) → inv .P j (new j)
+  unfolding joined
+  others j d = rw (ne-eqb j r₂ d) (⊎-elim
+      (λ p. rw p (old₂ .knownTops j)) (λ p. rw p (reply .firstTops j)) (larger-either n (m₂ .known j) (m₂ .first .matrix j)))
 
-    new : Matrix
-    new = joined n i r (m .own r) (m .known) (m .first .matrix)
+  raises : (j : ℕ) → m₂ .first .matrix j ≼ new j
+  unfolding joined
+  raises j = on (eqb j r₂)
+      (λ p. let d : j ≡ r₂ = eqb-true j r₂ p in rw d (rw (eq-eqb r₂ r₂ refl) (≼-raised (m₂ .first .matrix r₂) i (m₂ .own r₂)
+      (let h = reply .ownEntry in let g = old₂ .order r₂ in omega arith))))
+      (λ p. rw p (larger-above n (m₂ .known j) (m₂ .first .matrix j) (known-ordered j)))
 
-    others : (j : ℕ) → (j ≡ r → ⊥) → inv .P j (new j)
-    others j d = rw (ne-eqb j r d) (⊎-elim
-        (λ p. rw p (old .knownTops j)) (λ p. rw p (reply .firstTops j)) (larger-either n (m .known j) (m .first .matrix j)))
-
-    raises : (j : ℕ) → m .first .matrix j ≼ new j
-    raises j = on (eqb j r)
-        (λ p. let d : j ≡ r = eqb-true j r p in rw d (rw (eq-eqb r r refl) (≼-raised (m .first .matrix r) i (m .own r)
-        (let h = reply .ownEntry in let g = old .order r in omega arith))))
-        (λ p. rw p (larger-above n (m .known j) (m .first .matrix j)
-        (inv .chain j (m .known j) (m .first .matrix j) (old .knownTops j) (reply .firstTops j))))
+  pub reply-keeps : Inv n (replyTaken n b i) (refWith ref i (refMoved (ref .members i) 3))
+  unfolding replyTaken replied passed ownRecord joined refMoved
+  reply-keeps = rw (all-pass n i m₂ checks-pass)
+      (touched inv i (passed n i m₂ (m₂ .first) (m₂ .second)) (refMoved (ref .members i) 3)
+      (stepped 3 (m₂ .halt) (ownRecord n i m₂ (m₂ .first)) (m₂ .second) (ref .members i .noted) _ _ (λ j a p. p) old₂
+      (omega arith) (omega arith) (omega arith)
+      (λ q. old₂ .mark (omega arith) (omega arith))
+      (λ q. absurd (omega arith))
+      (λ q. absurd (omega arith))
+      (λ q. record { otherTops = others; ownValue = refl })
+      (λ q o. record {
+        above = λ j. rw (← old₂ .current e o .isNewest) (raises j);
+        row = rw (eq-eqb r₂ r₂ refl) (ap (λ c. put (c .matrix r₂) i (m₂ .own r₂)) (old₂ .current e o .isNewest));
+        isStored = old₂ .current e o .isStored;
+      })
+      (λ q. absurd (omega arith)))
+      (λ k. rw e refl))
 
 -- The verdict aborted, and the outcome taken in phases 4 and 5.
 
@@ -234,7 +231,7 @@ abort-keeps {n} {b} {ref} inv i e =
     (λ k. rw e refl)
 
 -- A member at rest, whatever it took over: it has no operation that the host could hold against it.
-at-rest : (P : Tops) (n i : ℕ) (m : Member) (f : RefMember) (e : Entry) (stored : Rec)
+pub at-rest : (P : Tops) (n i : ℕ) (m : Member) (f : RefMember) (e : Entry) (stored : Rec)
     → m .crashed ≡ f .crashed → ((r : ℕ) → m .own r ≡ f .begins r) → ((r : ℕ) → m .accepted r ≤ m .own r) → ((j : ℕ) → P j (m .known j))
     → MemberInv P n i (dropped m) (refEnded f) e stored
 unfolding refEnded dropped

@@ -1,4 +1,4 @@
--- What each step of the member sets and what it keeps: every part by computing the step, one after the other. Assumes nothing.
+-- What each step of the member sets and what it keeps: every part by computing the step, one after the other.
 use Prim.Native.Nat.{ℕ, zero, suc}
 use mathlib.Core.Path.{_≡_, refl}
 use mathlib.Core.Bool.{Bool, true, false}

@@ -1,6 +1,6 @@
 -- The numbers that begin, deliver and crash are answered with are those of document 01's table. Each call is a list of rows, a number and
 -- its grounds: the grounds give the number by computing, and of every call some row's grounds hold, by going through the tests. Since
--- the numbers differ, a number then has its grounds too. Assumes nothing.
+-- the numbers differ, a number then has its grounds too.
 use Prim.Native.Nat.{ℕ, _≤_, _<_}
 use mathlib.Core.Path.{_≡_, refl, sym, _∙_}
 use mathlib.Core.Bool.{Bool, true, false, cond, not, _&&_, _||_}
@@ -10,15 +10,11 @@ use native.Mathlib.Omega.{arith}
 use lib.Dec.{eqb, leb}
 use borrow.Author.Tests.{eqb-true, eqb-false, eq-eqb, ne-eqb, leb-true, leb-false, le-leb, lt-leb}
 use Rattle.lists.specs.Functions.{inside}
-use Rattle.lists.proofs.Functions.{on, apart, inside-in, inside-low, inside-high}
+use Rattle.lists.proofs.Functions.{_and_, on, apart, inside-in, inside-low, inside-high}
 use Rattle.model.specs.Kinds.{Kind, concur, isOperation, barred}
 use Rattle.model.specs.Numbers.{fieldsNumber, beginAnswer, deliverAnswer, crashAnswer}
 use Rattle.model.specs.NumberClaims.{OneTo, Barred, Allowed, NothingToDeliver, BeginNumbers, DeliverNumbers, CrashNumbers}
 use Rattle.model.specs.NumberClaims.{NumbersAsListed}
-
-infixr 4 _and_
-abbrev _and_ : {A B : Type 0} → A → B → A × B
-a and b = (a, b)
 
 -- A table's rows.
 
@@ -86,6 +82,22 @@ unfolding All Give Some
 listed Q answer [] all give some = absurd some
 listed Q answer (row ∷ rows) all give some =
     ⊎-elim (λ ground. rw (give .0 ground) (all .0)) (listed Q answer rows (all .1) (give .1)) some
+
+-- a call with one number beside 4: all that is claimed of it
+module _ (answer k : ℕ) (A B C : Type 0) where
+  abbrev three : Rows
+  three = (4, A) ∷ (k, B) ∷ (0, C) ∷ []
+
+  three-rows : (k ≡ 4 → ⊥) → (k ≡ 0 → ⊥) → Give answer three → Some three
+      → ((answer ≡ 4) ↔ A) × ((answer ≡ k) ↔ B) × ((answer ≡ 0) ↔ C) × ((answer ≡ 0) ⊎ (answer ≡ 4) ⊎ (answer ≡ k))
+  unfolding Distinct Off Exactly All
+  three-rows four zero give some =
+      let e = exactly answer three (omega arith) give some in (
+        e .0,
+        e .1 .0,
+        e .1 .1 .0,
+        listed (λ x. (x ≡ 0) ⊎ (x ≡ 4) ⊎ (x ≡ k)) answer three (inr (inl refl) and inr (inr refl) and inl refl and tt) give some,
+      )
 
 -- The tests, and what they mean.
 
@@ -275,16 +287,9 @@ module _ (n phase crashed i : ℕ) where
       and tt
 
   deliver-numbers : DeliverNumbers n phase crashed i (deliverAnswer n phase crashed i)
-  unfolding Distinct Off Exactly All
   deliver-numbers =
-      let e = exactly (deliverAnswer n phase crashed i) deliver-rows (omega arith) deliver-gives deliver-some in
-      record {
-        four = e .0;
-        ten = e .1 .0;
-        done = e .1 .1 .0;
-        noOther = listed (λ k. (k ≡ 0) ⊎ (k ≡ 4) ⊎ (k ≡ 10)) (deliverAnswer n phase crashed i) deliver-rows
-            (inr (inl refl) and inr (inr refl) and inl refl and tt) deliver-gives deliver-some;
-      }
+      let e = three-rows (deliverAnswer n phase crashed i) 10 _ _ _ (λ d. omega arith) (λ d. omega arith) deliver-gives deliver-some in
+      record { four = e .0; ten = e .1; done = e .2; noOther = e .3 }
 
   abbrev crash-rows : Rows
   crash-rows =
@@ -316,16 +321,9 @@ module _ (n phase crashed i : ℕ) where
       and tt
 
   crash-numbers : CrashNumbers n phase crashed i (crashAnswer n phase crashed i)
-  unfolding Distinct Off Exactly All
   crash-numbers =
-      let e = exactly (crashAnswer n phase crashed i) crash-rows (omega arith) crash-gives crash-some in
-      record {
-        four = e .0;
-        eleven = e .1 .0;
-        done = e .1 .1 .0;
-        noOther = listed (λ k. (k ≡ 0) ⊎ (k ≡ 4) ⊎ (k ≡ 11)) (crashAnswer n phase crashed i) crash-rows
-            (inr (inl refl) and inr (inr refl) and inl refl and tt) crash-gives crash-some;
-      }
+      let e = three-rows (crashAnswer n phase crashed i) 11 _ _ _ (λ d. omega arith) (λ d. omega arith) crash-gives crash-some in
+      record { four = e .0; eleven = e .1; done = e .2; noOther = e .3 }
 
 pub numbers-as-listed : (n : ℕ) → NumbersAsListed n
 numbers-as-listed n = record {

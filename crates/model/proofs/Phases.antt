@@ -1,5 +1,5 @@
 -- How phases move in the reference's run: a call answered 0 moves its own member's phase as document 01 says, and no other's.
--- Phase by phase, from the reference's definitions. Assumes nothing.
+-- Step by step, from the reference's definitions.
 use Prim.Native.Nat.{ℕ, _≤_}
 use mathlib.Core.Path.{_≡_, refl, ap, _∙_, fun-ext}
 use mathlib.Core.Bool.{Bool, true, false, cond}

@@ -1,5 +1,5 @@
 -- The watcher's positions are the steps at which the things happened, and none is left out: for every run whose phases move as Phases.antt
--- says. Each step of a run is one of the moves and has its place, which later moves keep. Assumes nothing.
+-- says. Each step of a run is one of the moves and has its place, which later moves keep.
 use Prim.Native.Nat.{ℕ, _+_, _-_, _≤_, _<_}
 use mathlib.Core.Path.{_≡_, refl, sym, ap, _∙_}
 use mathlib.Core.Bool.{cond}

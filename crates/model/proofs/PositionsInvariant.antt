@@ -1,5 +1,5 @@
 -- What is known of the watcher's positions after every step: the invariant behind the positions' part of demand 3. One step of the
--- watch is one of six moves (`Moved`). Statements alone, but for one that each move shows. Assumes nothing.
+-- watch is one of six moves (`Moved`). Statements alone, but for one that each move shows.
 use Prim.Native.Nat.{ℕ, _+_, _≤_, _<_}
 use mathlib.Core.Path.{_≡_, refl}
 use mathlib.Core.Bool.{Bool, false, cond}

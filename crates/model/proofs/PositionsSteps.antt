@@ -1,5 +1,4 @@
 -- Each of the six moves keeps what is known of the positions: of the places, of every operation found, of every submit taken.
--- Assumes nothing.
 use Prim.Native.Nat.{ℕ, _+_, _≤_, _<_}
 use mathlib.Core.Path.{_≡_, refl, sym, _∙_}
 use mathlib.Core.Bool.{Bool, false, cond}

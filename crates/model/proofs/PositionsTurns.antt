@@ -1,5 +1,5 @@
 -- A member's operations come one after the other: each of the six moves keeps that all its decided operations ended before the one that it
--- runs began. Assumes nothing.
+-- runs began.
 use Prim.Native.Nat.{ℕ, _+_, _≤_, _<_}
 use mathlib.Core.Path.{_≡_, sym, _∙_}
 use mathlib.Core.Bool.{cond}

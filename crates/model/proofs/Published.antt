@@ -1,5 +1,5 @@
 -- The member is Algorithm 3's client, with document 01's differences; and the two printed lines that halt a member with an honest server.
--- Assumes nothing.
+-- Line by line, by computing both.
 use Prim.Native.Nat.{ℕ, _/_, _%_}
 use mathlib.Core.Path.{_≡_, refl, sym, _∙_, ap, fun-ext}
 use mathlib.Core.Bool.{Bool, true, false, cond, not, _&&_}

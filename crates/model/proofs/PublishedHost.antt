@@ -1,8 +1,8 @@
 -- The host of a board is Algorithm 5's server with document 01's 5.12, on every run from the opening: it is the host half (HostHalf.antt),
--- and what a run's members send is fit and each commit follows its own submit once. Assumes nothing.
+-- and what a run's members send is fit and each commit follows its own submit once.
 use Prim.Native.Nat.{ℕ, _≤_}
 use mathlib.Core.Path.{_≡_, refl, sym, ap, ap₂, _∙_}
-use mathlib.Core.Bool.{Bool, true, false, not, _&&_, _||_}
+use mathlib.Core.Bool.{or-false, and-true, Bool, true, false, not, _&&_, _||_}
 use mathlib.Core.List.{List, [], _∷_, _++_}
 use native.Mathlib.Omega.{arith}
 use lib.Dec.{eqb}
@@ -22,7 +22,7 @@ use Rattle.model.specs.HostClaims.{Half, halfOpened, halfAfter, halfAnsw
 use Rattle.model.specs.HostClaims.{noneWaiting, RunSends}
 use Rattle.model.proofs.Answers.{BeginTaken}
 use Rattle.model.proofs.Steps.{Taken, begins, submits, replies, commits, ends, crashes, taken}
-use Rattle.model.proofs.HostHalf.{same-self, not-same, or-false, and-true, none-both, half-as-published}
+use Rattle.model.proofs.HostHalf.{same-self, not-same, none-both, half-as-published}
 
 -- What member k has sent and not yet committed: between submit and commit its operation, and else nothing. A halted one sends no more.
 record Sends (n k : ℕ) (m : Member) (waiting : Id → Bool) : Type 0 where

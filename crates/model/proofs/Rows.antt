@@ -1,4 +1,4 @@
--- Facts about rows and matrices, for every n.
+-- Facts about rows and matrices, for every n: what the tests of Rows.antt say of the entries 1 to n.
 use Prim.Native.Nat.{ℕ, _≤_}
 use native.Mathlib.Nat.{le-refl, le-trans, le-antisymm}
 use native.Mathlib.Omega.{arith}

@@ -113,6 +113,7 @@ ref-taken kind n ref (crash i) h = crashes i
 
 -- A deliver, given the phase.
 pub ref-phase : (ref : Reference) (i p : ℕ) → ref .members i .phase ≡ p
-    → refDelivered ref i ≡ cond (eqb p 1) (refSubmit ref i) (cond (eqb p 2) (refReply ref i) (cond (eqb p 3) (refCommit ref i) (refEnd ref i)))
+    → refDelivered ref i ≡ cond (eqb p 1) (refSubmit ref i) (cond (eqb p 2) (refReply ref i)
+    (cond (eqb p 3) (refCommit ref i) (refEnd ref i)))
 unfolding refDelivered
 ref-phase ref i p e = rw e

@@ -1,5 +1,4 @@
 -- Every case of the table holds: the test of each is computed, and a test that passes means equal lines.
--- Assumes nothing.
 use Prim.Native.Nat.{ℕ, zero, suc, _<_}
 use mathlib.Core.Path.{_≡_, refl}
 use mathlib.Core.Bool.{Bool, true, false≢true}

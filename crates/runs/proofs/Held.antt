@@ -1,5 +1,5 @@
 -- What a table can hold: a board all of whose counts and words lie at members and slots 1 to n reads back from its words as itself, and
--- every call leaves such a board. Assumes nothing.
+-- every call leaves such a board.
 use Prim.Native.Nat.{ℕ, _+_, _-_, _*_, _≤_}
 use native.Mathlib.Omega.{arith}
 use mathlib.Core.Path.{_≡_, refl, sym, ap, _∙_, fun-ext}
@@ -110,7 +110,8 @@ begun-held {n} {m} r t v h p q = record {
 noted-held : {n : ℕ} {m : Member} (phase : ℕ) (one two : Rec) → HeldMember n m → recordWithin n one ≡ one → recordWithin n two ≡ two
     → HeldMember n (moved m phase (m .halt) one two)
 noted-held {n} {m} phase one two h p q = record {
-  block = put (pasted (secondAt n) (recordSize n) (words (recordWords n two)) (pasted (firstAt n) (recordSize n) (words (recordWords n one)) w)) phaseAt phase;
+  block = put (pasted (secondAt n) (recordSize n) (words (recordWords n two))
+      (pasted (firstAt n) (recordSize n) (words (recordWords n one)) w)) phaseAt phase;
   decodes = ap (λ m. moved m phase (m .halt) one two) (h .decodes)
       ∙ (λ t. moved (memberOf n w) phase (memberOf n w .halt) (sym p t) (sym q t)) ∙ sym (noted-by n w phase one two);
 }
@@ -157,7 +158,9 @@ matrix-read n w = (
     rows k = numbered n 0 (from w (k * n))
 
     here : (j : ℕ) → inside n j ≡ true → numbered n zeroRow rows j ≡ numbered n 0 (from w ((j - 1) * n))
-    here j p = ap (λ g. g j) (numbered-within n zeroRow rows) ∙ within-at n zeroRow (λ k. rows (k - 1)) j (inside-low n j p) (inside-high n j p)
+    here j p =
+        ap (λ g. g j) (numbered-within n zeroRow rows)
+        ∙ within-at n zeroRow (λ k. rows (k - 1)) j (inside-low n j p) (inside-high n j p)
 
 known-held : {n : ℕ} {m : Member} → HeldMember n m → MatrixHeld n (m .known)
 unfolding memberOf
@@ -181,7 +184,8 @@ joined-held : (n i r count : ℕ) (known newest : Matrix) → inside n i ≡ tru
     → MatrixHeld n (joined n i r count known newest)
 unfolding joined
 joined-held n i r count known newest p q k w = (
-  (λ j o. rw (ne-eqb j r (λ e. apart (ap (inside n) e ∙ q) o)) (⊎-elim (λ e. e ∙ k .0 j o) (λ e. e ∙ w .0 j o) (larger-either n (known j) (newest j)))),
+  (λ j o. rw (ne-eqb j r (λ e. apart (ap (inside n) e ∙ q) o))
+      (⊎-elim (λ e. e ∙ k .0 j o) (λ e. e ∙ w .0 j o) (larger-either n (known j) (newest j)))),
   (λ j. on (eqb j r)
       (λ e. rw e (within-put n 0 (newest r) i count p (w .1 r)))
       (λ e. rw e (⊎-elim
@@ -205,7 +209,8 @@ own-held {n} {m} i newest h p q w = λ t. record {
       (matrix-parts n (newest .matrix) (matrix-of n newest w))) t;
 }
 
-replied-held : {n : ℕ} {m : Member} (i : ℕ) (newest stored : Rec) (seals : ℕ) → HeldMember n m → inside n i ≡ true → inside n (m .slot) ≡ true
+replied-held : {n : ℕ} {m : Member} (i : ℕ) (newest stored : Rec) (seals : ℕ)
+    → HeldMember n m → inside n i ≡ true → inside n (m .slot) ≡ true
     → recordWithin n newest ≡ newest → recordWithin n stored ≡ stored → HeldMember n (replied n i m newest stored seals)
 unfolding replied passed
 replied-held {n} {m} i newest stored seals h p q a b = on (eqb (haltNumber n i m newest stored seals) 0)

@@ -1,5 +1,5 @@
 -- The host half's calls on words answer as Algorithm 5's server: the words of a sound half decode to it, so that each call is the half's
--- step (HostHalf.antt). Assumes nothing.
+-- step (HostHalf.antt).
 use Prim.Native.Nat.{ℕ}
 use native.Mathlib.Omega.{arith}
 use mathlib.Core.Path.{_≡_, refl, sym, ap, ap₂, _∙_}

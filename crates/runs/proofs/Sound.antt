@@ -1,5 +1,5 @@
 -- Every call keeps the table's check true: whatever sound board it is made on, number 3 does not hold after it.
--- Assumes nothing.
+-- Step by step: what each makes of the member, and of the slot.
 use Prim.Native.Nat.{ℕ, _≤_}
 use native.Mathlib.Omega.{arith}
 use mathlib.Core.Path.{_≡_, refl}
@@ -119,16 +119,12 @@ own-sound n i m newest s p = record-sound (record { member = inside-high n i p; 
 replied-sound : (n i : ℕ) (m : Member) (newest stored : Rec) (seals : ℕ) → Parts n i m → inside 5 (m .phase) ≡ true
     → inside n i ≡ true → soundRecord n stored ≡ true → Parts n i (replied n i m newest stored seals)
 unfolding replied passed failed
-replied-sound n i m newest stored seals s running p two = pick (passed n i m newest stored) (failed m number) (eqb number 0)
-    (moved-sound n i m 3 (m .halt) (ownRecord n i m newest) stored s running (omega arith) (s .halt) (own-sound n i m newest s p) two)
-    (moved-sound n i m 6 number zeroRecord zeroRecord s running (omega arith) (halt-small n i m newest stored seals) (zero-sound n) (zero-sound n))
-  where
-    number : ℕ
-    number = haltNumber n i m newest stored seals
-
-    pick : (a b : Member) (t : Bool) → Parts n i a → Parts n i b → Parts n i (cond t a b)
-    pick a b true x y = x
-    pick a b false x y = y
+replied-sound n i m newest stored seals s running p two =
+    let number = haltNumber n i m newest stored seals in
+    split (Parts n i) (eqb number 0)
+    (λ t. moved-sound n i m 3 (m .halt) (ownRecord n i m newest) stored s running (omega arith) (s .halt) (own-sound n i m newest s p) two)
+    (λ t. moved-sound n i m 6 number zeroRecord zeroRecord s running (omega arith) (halt-small n i m newest stored seals)
+    (zero-sound n) (zero-sound n))
 
 -- The board: one member changed, or one member and one slot.
 

@@ -1,5 +1,5 @@
 -- Demand 3 on tables of words: every run from what opening leaves, each call by the definitions that the board's contracts cite.
--- Assumes nothing.
+-- The table of a sound board that it can hold decodes to that board, so a call on the one is a call on the other.
 use Prim.Native.Nat.{ℕ, _+_}
 use native.Mathlib.Omega.{arith}
 use mathlib.Core.Path.{_≡_, refl, sym, ap, _∙_, fun-ext}

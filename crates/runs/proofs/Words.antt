@@ -1,6 +1,6 @@
 -- The worked cases on tables of words: a case that starts from an opened board holds of every table that opening took.
--- Assumes nothing.
-use Prim.Native.Nat.{ℕ, zero, suc, _+_, _-_}
+-- Such a table's run is the board's (Tables.antt).
+use Prim.Native.Nat.{ℕ, _+_, _-_}
 use native.Mathlib.Omega.{arith}
 use mathlib.Core.Path.{_≡_, refl, sym, ap, _∙_, fun-ext}
 use mathlib.Core.Bool.{true, false, false≢true}
@@ -8,20 +8,17 @@ use mathlib.Core.List.{List, [], _∷_, _++_}
 use lib.Dec.{eqb}
 use borrow.Author.Tests.{eqb-true, eqb-false}
 use Rattle.lists.specs.Functions.{put, inside, numbered}
-use Rattle.lists.proofs.Functions.{on, inside-low, put-off}
+use Rattle.lists.proofs.Functions.{_and_, on, inside-low, put-off}
 use Rattle.model.specs.Records.{zeroValue}
 use Rattle.model.specs.Kinds.{isSize, concur}
 use Rattle.model.specs.Board.{Board, opened}
-use Rattle.model.specs.Runs.{Call, Seen, deliver, crash, after, run}
+use Rattle.model.specs.Runs.{Call, Seen, after, run}
 use Rattle.lists.specs.Every.{Every}
 use Rattle.model.specs.RecordWords.{valueOf}
 use Rattle.model.specs.Table.{tableWords}
 use Rattle.model.specs.TableCalls.{openNumber, openWords, boardIn, tableRun}
-use Rattle.runs.specs.Case.{Case, Claim, left, answerTo, found, Holds, tableLeft, foundInWords, HoldsInWords, reads, delivers}
-use Rattle.runs.specs.Case.{wholeWrite, wholeRead}
-use Rattle.runs.specs.Cases.{p1, p6, p7, p9, p11, p12, refusals, seals, unsealed, alone, mended, contended, crashedAborted}
-use Rattle.runs.specs.Cases.{crashedSubmit, crashedOvertakes, readsNotStored, ownReadsNotStored, plain, crashes, falses}
-use Rattle.runs.specs.Cases.{fromOpening}
+use Rattle.runs.specs.Case.{Case, Claim, left, answerTo, found, Holds, tableLeft, foundInWords, HoldsInWords}
+use Rattle.runs.specs.Cases.{p1, p9, p11, refusals, seals, unsealed, alone, mended, fromOpening}
 use Rattle.runs.proofs.Cases.{every-case}
 use Rattle.laws.proofs.Sound.{SoundBoard}
 use Rattle.runs.proofs.Sound.{opened-sound}
@@ -78,138 +75,34 @@ last-held w = value-held (put zeroValue 8 w) (λ k p. on (eqb k 8)
     (λ e. absurd (let d : k ≡ 8 = eqb-true k 8 e in false≢true (sym p ∙ ap (inside 8) d)))
     (λ e. put-off zeroValue 8 w k (eqb-false k 8 e)))
 
--- Lists of calls, one after the other.
-joined : {A : Type 0} (P : A → Type 0) (xs ys : List A) → Every P xs → Every P ys → Every P (xs ++ ys)
-joined P [] ys p q = q
-joined P (x ∷ xs) ys p q = (p .0, joined P xs ys (p .1) q)
-
-join : (xs ys : List Call) → Every CallHeld xs → Every CallHeld ys → Every CallHeld (xs ++ ys)
-join = joined CallHeld
-
-delivers-held : (i k : ℕ) → Every CallHeld (delivers i k)
-delivers-held i zero = tt
-delivers-held i (suc k) = (tt, delivers-held i k)
-
-write-held : (i v : ℕ) → Every CallHeld (wholeWrite i v)
-write-held i v = (last-held v, delivers-held i 4)
-
-read-held : (i r : ℕ) → Every CallHeld (wholeRead i r)
-read-held i r = (zero-held, delivers-held i 4)
-
-contended-held : Every CallHeld contended
-contended-held = (zero-held, (zero-held, (tt, (tt, (tt, (tt, tt))))))
-
-p6-held : (i j : ℕ) → Every CallHeld (contended ++ (deliver i ∷ deliver j ∷ []))
-p6-held i j = join contended (deliver i ∷ deliver j ∷ []) contended-held (tt, (tt, tt))
-
-p7-held : Every CallHeld (p7 .calls)
-p7-held = join (p6 .calls) ((deliver 1 ∷ deliver 2 ∷ []) ++ wholeWrite 2 5 ++ wholeRead 1 2) (p6-held 1 2)
-    (tt, (tt, join (wholeWrite 2 5) (wholeRead 1 2) (write-held 2 5) (read-held 1 2)))
-
 -- From an opened board, by calls whose values have 8 words.
 abbrev Opened : Case → Type 0
 Opened c = (c .start ≡ opened (c .n)) × Every CallHeld (c .calls)
 
--- the calls of the longer ones
+ruleset held = (zero-held, last-held)
 
-crashed-submit : Every CallHeld (crashedSubmit .calls)
-crashed-submit = (
-  zero-held,
-  (
-    tt,
-    (
-      tt,
-      join (wholeRead 2 3) (wholeWrite 3 9 ++ (deliver 1 ∷ [])) (read-held 2 3)
-          (join (wholeWrite 3 9) (deliver 1 ∷ []) (write-held 3 9) (tt, tt)),
-    ),
-  ),
-)
-
-crashed-overtakes : Every CallHeld (crashedOvertakes .calls)
-crashed-overtakes = (
-  zero-held,
-  (
-    tt,
-    (
-      zero-held,
-      (
-        tt,
-        (
-          tt,
-          join (delivers 2 3) (wholeRead 2 3) (delivers-held 2 3) (read-held 2 3),
-        ),
-      ),
-    ),
-  ),
-)
-
-crashed-aborted : Every CallHeld (crashedAborted .calls)
-crashed-aborted = join contended (deliver 1 ∷ crash 1 ∷ deliver 1 ∷ deliver 2 ∷ deliver 2 ∷ []) contended-held
-    (tt, (tt, (tt, (tt, (tt, tt)))))
-
-reads-not-stored : Every CallHeld (readsNotStored .calls)
-reads-not-stored = join (wholeWrite 1 77) (wholeRead 2 1 ++ wholeRead 3 1 ++ wholeRead 2 1) (write-held 1 77)
-    (join (wholeRead 2 1) (wholeRead 3 1 ++ wholeRead 2 1) (read-held 2 1)
-    (join (wholeRead 3 1) (wholeRead 2 1) (read-held 3 1) (read-held 2 1)))
-
-own-reads-not-stored : Every CallHeld (ownReadsNotStored .calls)
-own-reads-not-stored = join (wholeWrite 2 5) (wholeRead 2 1 ++ wholeRead 1 2) (write-held 2 5)
-    (join (wholeRead 2 1) (wholeRead 1 2) (read-held 2 1) (read-held 1 2))
-
--- P2 to P8 and P10; the crashes; the false programs; P12
-
-plain-opened : Every Opened plain
-plain-opened = (
-  (refl, join (wholeWrite 1 77) (wholeRead 2 1) (write-held 1 77) (read-held 2 1)),
-  (
-    (refl, write-held 1 77),
-    (
-      (refl, join (wholeWrite 1 77) (reads 2 1 ∷ delivers 2 3) (write-held 1 77) (zero-held, delivers-held 2 3)),
-      (
-        (refl, (zero-held, tt)),
-        (
-          (refl, (last-held 77, (last-held 78, tt))),
-          (
-            (refl, p6-held 1 2),
-            (
-              (refl, p7-held),
-              (
-                (refl, join (p7 .calls) (wholeRead 1 3) p7-held (read-held 1 3)),
-                ((refl, (last-held 77, (tt, (tt, (tt, (tt, (tt, read-held 2 1))))))), tt),
-              ),
-            ),
-          ),
-        ),
-      ),
-    ),
-  ),
-)
-
-crashes-opened : Every Opened crashes
-crashes-opened = (
-  (refl, (last-held 77, (tt, (tt, (tt, (tt, (tt, read-held 2 1))))))),
-  ((refl, crashed-aborted), tt),
-)
-
-false-opened : Every Opened falses
-false-opened = (
-  (refl, p6-held 2 1),
-  (
-    (refl, crashed-submit),
-    (
-      (refl, crashed-overtakes),
-      (
-        (refl, reads-not-stored),
-        ((refl, own-reads-not-stored), tt),
-      ),
-    ),
-  ),
-)
-
+-- each of P2 to P8 and P10, of the crashes, of the false programs, of P12
 all-opened : Every Opened fromOpening
-all-opened = joined Opened plain (crashes ++ falses ++ p12) plain-opened
-    (joined Opened crashes (falses ++ p12) crashes-opened
-    (joined Opened falses p12 false-opened ((refl, write-held 1 77), ((refl, write-held 1 77), tt))))
+all-opened =
+    (refl, search held depth 40)
+    and (refl, search held depth 40)
+    and (refl, search held depth 40)
+    and (refl, search held depth 40)
+    and (refl, search held depth 40)
+    and (refl, search held depth 40)
+    and (refl, search held depth 40)
+    and (refl, search held depth 40)
+    and (refl, search held depth 40)
+    and (refl, search held depth 40)
+    and (refl, search held depth 40)
+    and (refl, search held depth 40)
+    and (refl, search held depth 40)
+    and (refl, search held depth 40)
+    and (refl, search held depth 40)
+    and (refl, search held depth 40)
+    and (refl, search held depth 40)
+    and (refl, search held depth 40)
+    and tt
 
 module _ {A : Type 0} (P : A → Type 0) where
   behind : (xs ys : List A) → Every P (xs ++ ys) → Every P ys
@@ -229,7 +122,8 @@ each-in-words (c ∷ cs) o h = ((λ l n. case-in-words c (o .0 .0) (o .0 .1) l n
 
 -- The cases P2 to P8, P10 and P12, and those against false programs, on whatever table of words opening took.
 pub every-case-in-words : Every InWords fromOpening
-every-case-in-words = each-in-words fromOpening all-opened (before Holds fromOpening rest (behind Holds p1 (fromOpening ++ rest) every-case))
+every-case-in-words =
+    each-in-words fromOpening all-opened (before Holds fromOpening rest (behind Holds p1 (fromOpening ++ rest) every-case))
   where
     rest : List Case
     rest = (p9 ∷ p11 ∷ refusals ∷ seals ∷ unsealed ∷ []) ++ alone ++ mended
