@@ -26,18 +26,8 @@ module _ (parts : List Part) (m left : Member) where
   Kept part = List·Memᴰ part parts ⊎ Same part m left
 
   -- all twelve, in the order of the record
-  each-part : Kept Part.phase
-      → Kept Part.crashed
-      → Kept Part.halt
-      → Kept Part.slot
-      → Kept Part.operation
-      → Kept Part.own
-      → Kept Part.accepted
-      → Kept Part.last
-      → Kept Part.pending
-      → Kept Part.known
-      → Kept Part.first
-      → Kept Part.second
+  each-part : Kept Part.phase → Kept Part.crashed → Kept Part.halt → Kept Part.slot → Kept Part.operation → Kept Part.own
+      → Kept Part.accepted → Kept Part.last → Kept Part.pending → Kept Part.known → Kept Part.first → Kept Part.second
       → ChangesOnly parts m left
   unfolding ChangesOnly
   each-part phase crashed halt slot operation own accepted last pending known first second part = elim part [
@@ -101,19 +91,8 @@ module _ (m : Member) where
 
   accepted-only : ChangesOnly (Part.known ∷ Part.accepted ∷ Part.last ∷ zeroed) m (outcome m true)
   unfolding outcome completed dropped tookOver Same at-place
-  accepted-only = each-part _ _ _
-      (at 3 refl)
-      stays
-      stays
-      (at 4 refl)
-      (at 5 refl)
-      stays
-      (at 1 refl)
-      (at 2 refl)
-      (at 6 refl)
-      (at 0 refl)
-      (at 7 refl)
-      (at 8 refl)
+  accepted-only = each-part _ _ _ (at 3 refl) stays stays (at 4 refl) (at 5 refl) stays
+      (at 1 refl) (at 2 refl) (at 6 refl) (at 0 refl) (at 7 refl) (at 8 refl)
 
   aborted-only : ChangesOnly zeroed m (outcome m false)
   unfolding outcome dropped Same at-place

@@ -7,14 +7,14 @@ use mathlib.Core.Bool.{Bool, true, false, cond}
 use mathlib.Core.Logic.{⊎-elim}
 use lib.Dec.{eqb}
 use borrow.Author.Tests.{ne-eqb}
-use Rattle.lists.specs.Functions.{put, pasted, from, inside, within, numbered}
+use Rattle.lists.specs.Functions.{put, from, inside, within, numbered}
 use Rattle.lists.specs.Parts.{words, tabulate}
 use Rattle.lists.proofs.Functions.{on, split, apart, put-off, put-same, put-all, inside-in, inside-low, inside-high, within-at}
 use Rattle.lists.proofs.Functions.{within-off, within-same, within-blank, numbered-within, numbered-off, numbered-at, numbered-same}
 use Rattle.lists.proofs.Parts.{tabulate-at}
 use Rattle.model.specs.Rows.{Row, Matrix, zeroRow}
 use Rattle.model.specs.Records.{Value, Rec, write, opening, zeroRecord, matrixWithin, recordWithin}
-use Rattle.model.specs.RecordWords.{recordSize, rowOf, matrixOf, valueOf, recordWords}
+use Rattle.model.specs.RecordWords.{rowOf, matrixOf, valueOf}
 use Rattle.model.specs.Kinds.{Kind, becomesStored}
 use Rattle.model.specs.Member.{Member, idle, begun, answered, haltNumber, joined, ownRecord, passed, failed, replied, judged, completed}
 use Rattle.model.specs.Member.{dropped, tookOver, outcome, moved, crashedOf}
@@ -22,16 +22,15 @@ use Rattle.model.specs.Host.{Entry, submitted, entryAfter, storedAfter}
 use Rattle.model.specs.Board.{Board, noEntry, openingEntry, opened, withMember, boardBegun, submitTaken, replyTaken, sentRecord}
 use Rattle.model.specs.Board.{commitTaken, outcomeTaken, boardCrashed}
 use Rattle.model.specs.Runs.{Call, begin, deliver, crash}
-use Rattle.model.specs.Table.{pendingAt, lastAt, ownAt, firstAt, secondAt, phaseAt, haltAt, crashedAt, slotAt, operationAt, knownAt}
-use Rattle.model.specs.Table.{blockSize, memberOf, memberWords, entryOf, storedOf, entryWords, boardOf, tableWords}
+use Rattle.model.specs.Table.{pendingAt, lastAt, firstAt, secondAt, slotAt, operationAt, knownAt, blockSize, memberOf, memberWords}
+use Rattle.model.specs.Table.{entryOf, storedOf, entryWords, boardOf, tableWords}
 use Rattle.model.proofs.Rows.{larger-either}
 use Rattle.model.proofs.Steps.{Taken, begins, submits, replies, commits, ends, crashes, by-verdict}
 use Rattle.laws.proofs.Records.{recordOf-words, within-read, within-opening, within-zeroRecord}
 use Rattle.laws.proofs.Blocks.{member-words, member-same, member-zero, entry-read, stored-read}
 use Rattle.laws.proofs.Tables.{table-read}
 use Rattle.laws.proofs.Sound.{SoundBoard}
-use Rattle.laws.proofs.Steps.{headed, begun-by, noted-by, failed-by, judged-by, dropped-by, crashed-by, kept, tookOver-read}
-use Rattle.laws.proofs.Steps.{tookOver-write}
+use Rattle.laws.proofs.Steps.{begun-by, noted-by, failed-by, judged-by, dropped-by, crashed-by, tookOver-read, tookOver-write}
 
 -- Functions that are blank outside 1 to n.
 
@@ -91,11 +90,13 @@ member-back {n} {m} h = rw (h .decodes) (
 abbrev pub ValueHeld : Value → Type 0
 ValueHeld v = valueOf (λ i. v (i + 1)) ≡ v
 
+-- a step that is one of words
+by-words : {n : ℕ} {m : Member} (step : Member → Member) (h : HeldMember n m) (after : ℕ → ℕ)
+    → memberOf n after ≡ step (memberOf n (h .block)) → HeldMember n (step m)
+by-words step h after e = record { block = after; decodes = ap step (h .decodes) ∙ sym e }
+
 begun-held : {n : ℕ} {m : Member} (r t : ℕ) (v : Value) → HeldMember n m → inside n r ≡ true → ValueHeld v → HeldMember n (begun m r t v)
-begun-held {n} {m} r t v h p q = record {
-  block = headed (pasted (pendingAt n) 8 carried (put w (ownAt + r - 1) (w (ownAt + r - 1) + 1))) 1 r t;
-  decodes = ap (λ m. begun m r t v) (h .decodes) ∙ sym (begun-by n w r t v carried (inside-low n r p) (inside-high n r p) value);
-}
+begun-held {n} r t v h p q = by-words (λ m. begun m r t v) h _ (begun-by n w r t v carried (inside-low n r p) (inside-high n r p) value)
   where
     w : ℕ → ℕ
     w = h .block
@@ -109,39 +110,20 @@ begun-held {n} {m} r t v h p q = record {
 -- a step within an operation that notes two records which the board has whole
 noted-held : {n : ℕ} {m : Member} (phase : ℕ) (one two : Rec) → HeldMember n m → recordWithin n one ≡ one → recordWithin n two ≡ two
     → HeldMember n (moved m phase (m .halt) one two)
-noted-held {n} {m} phase one two h p q = record {
-  block = put (pasted (secondAt n) (recordSize n) (words (recordWords n two))
-      (pasted (firstAt n) (recordSize n) (words (recordWords n one)) w)) phaseAt phase;
-  decodes = ap (λ m. moved m phase (m .halt) one two) (h .decodes)
-      ∙ (λ t. moved (memberOf n w) phase (memberOf n w .halt) (sym p t) (sym q t)) ∙ sym (noted-by n w phase one two);
-}
-  where
-    w : ℕ → ℕ
-    w = h .block
+noted-held {n} phase one two h p q = by-words (λ m. moved m phase (m .halt) one two) h _
+    (noted-by n (h .block) phase one two ∙ (λ t. moved (memberOf n (h .block)) phase (memberOf n (h .block) .halt) (p t) (q t)))
 
 failed-held : {n : ℕ} {m : Member} (number : ℕ) → HeldMember n m → HeldMember n (failed m number)
-failed-held {n} {m} number h = record {
-  block = put (put (pasted (firstAt n) (2 * recordSize n) (λ i. 0) (h .block)) phaseAt 6) haltAt number;
-  decodes = ap (λ m. failed m number) (h .decodes) ∙ sym (failed-by n (h .block) number);
-}
+failed-held {n} number h = by-words (λ m. failed m number) h _ (failed-by n (h .block) number)
 
 judged-held : {n : ℕ} {m : Member} (won : Bool) → HeldMember n m → HeldMember n (judged m won)
-judged-held {n} {m} won h = record {
-  block = put (h .block) phaseAt (cond won 4 5);
-  decodes = ap (λ m. judged m won) (h .decodes) ∙ sym (judged-by n (h .block) won);
-}
+judged-held {n} won h = by-words (λ m. judged m won) h _ (judged-by n (h .block) won)
 
 dropped-held : {n : ℕ} {m : Member} → HeldMember n m → HeldMember n (dropped m)
-dropped-held {n} {m} h = record {
-  block = headed (pasted (firstAt n) (2 * recordSize n) (λ i. 0) (pasted (pendingAt n) 8 (λ i. 0) (h .block))) 0 0 0;
-  decodes = ap dropped (h .decodes) ∙ sym (dropped-by n (h .block));
-}
+dropped-held {n} h = by-words dropped h _ (dropped-by n (h .block))
 
 crashed-held : {n : ℕ} {m : Member} → HeldMember n m → HeldMember n (crashedOf m)
-crashed-held {n} {m} h = record {
-  block = put (h .block) crashedAt 1;
-  decodes = ap crashedOf (h .decodes) ∙ sym (crashed-by n (h .block));
-}
+crashed-held {n} h = by-words crashedOf h _ (crashed-by n (h .block))
 
 -- The parts of a member that is held.
 
@@ -217,22 +199,48 @@ replied-held {n} {m} i newest stored seals h p q a b = on (eqb (haltNumber n i m
     (λ e. rw e (noted-held 3 (ownRecord n i m newest) stored h (own-held i newest h p q a) b))
     (λ e. rw e (failed-held (haltNumber n i m newest stored seals) h))
 
+-- The host: entries and stored records that words can hold.
+
+pub record HeldHost (n : ℕ) (host : ℕ → Entry) (stored : ℕ → Rec) : Type 0 where
+  pub newest : (r : ℕ) → recordWithin n (host r .newest) ≡ host r .newest
+  pub hostOff : (r : ℕ) → inside n r ≡ false → host r ≡ noEntry
+  pub whole : (r : ℕ) → recordWithin n (stored r) ≡ stored r
+  pub storedOff : (r : ℕ) → inside n r ≡ false → stored r ≡ zeroRecord
+
+module _ {n : ℕ} {host : ℕ → Entry} {stored : ℕ → Rec} (h : HeldHost n host stored) where
+  pub host-back : within n noEntry (λ r. entryOf n (words (entryWords n (host r) (stored r)))) ≡ host
+  host-back = within-same n noEntry (λ r. entryOf n (words (entryWords n (host r) (stored r)))) host
+      (λ r p q. entry-read n (host r) (stored r) (recordOf-words n (host r .newest) ∙ h .newest r))
+      ∙ blank-off n noEntry host (h .hostOff)
+
+  pub stored-back : within n zeroRecord (λ r. storedOf n (words (entryWords n (host r) (stored r)))) ≡ stored
+  stored-back = within-same n zeroRecord (λ r. storedOf n (words (entryWords n (host r) (stored r)))) stored
+      (λ r p q. stored-read n (host r) (stored r) (recordOf-words n (stored r) ∙ h .whole r))
+      ∙ blank-off n zeroRecord stored (h .storedOff)
+
+  -- one slot changed
+  pub slot-held : (r : ℕ) (e : Entry) (s : Rec) → inside n r ≡ true → recordWithin n (e .newest) ≡ e .newest → recordWithin n s ≡ s
+      → HeldHost n (put host r e) (put stored r s)
+  slot-held r e s p g k = record {
+    newest = put-all (λ k e. recordWithin n (e .newest) ≡ e .newest) host r e g (λ k d. h .newest k);
+    hostOff = put-all (λ k e. inside n k ≡ false → e ≡ noEntry) host r e (λ q. absurd (apart p q)) (λ k d. h .hostOff k);
+    whole = put-all (λ k s. recordWithin n s ≡ s) stored r s k (λ k d. h .whole k);
+    storedOff = put-all (λ k s. inside n k ≡ false → s ≡ zeroRecord) stored r s (λ q. absurd (apart p q)) (λ k d. h .storedOff k);
+  }
+
 -- The board.
 
 pub record HeldBoard (n : ℕ) (b : Board) : Type 0 where
   pub members : (i : ℕ) → inside n i ≡ true → HeldMember n (b .members i)
   pub membersOff : (i : ℕ) → inside n i ≡ false → b .members i ≡ idle
-  pub newest : (r : ℕ) → recordWithin n (b .host r .newest) ≡ b .host r .newest
-  pub hostOff : (r : ℕ) → inside n r ≡ false → b .host r ≡ noEntry
-  pub stored : (r : ℕ) → recordWithin n (b .stored r) ≡ b .stored r
-  pub storedOff : (r : ℕ) → inside n r ≡ false → b .stored r ≡ zeroRecord
+  pub host : HeldHost n (b .host) (b .stored)
 
 -- it reads back from its words
 pub board-read : (n : ℕ) (b : Board) → HeldBoard n b → boardOf n (words (tableWords n b)) ≡ b
 board-read n b h = table-read n b ∙ (λ t. record {
   members = members t;
-  host = host t;
-  stored = stored t;
+  host = host-back (h .host) t;
+  stored = stored-back (h .host) t;
 })
   where
     members : within n idle (λ i. memberOf n (words (memberWords n (b .members i)))) ≡ b .members
@@ -240,39 +248,15 @@ board-read n b h = table-read n b ∙ (λ t. record {
         (λ i p q. member-back (h .members i (inside-in n i p q)))
         ∙ blank-off n idle (b .members) (h .membersOff)
 
-    host : within n noEntry (λ r. entryOf n (words (entryWords n (b .host r) (b .stored r)))) ≡ b .host
-    host = within-same n noEntry (λ r. entryOf n (words (entryWords n (b .host r) (b .stored r)))) (b .host)
-        (λ r p q. entry-read n (b .host r) (b .stored r) (recordOf-words n (b .host r .newest) ∙ h .newest r))
-        ∙ blank-off n noEntry (b .host) (h .hostOff)
-
-    stored : within n zeroRecord (λ r. storedOf n (words (entryWords n (b .host r) (b .stored r)))) ≡ b .stored
-    stored = within-same n zeroRecord (λ r. storedOf n (words (entryWords n (b .host r) (b .stored r)))) (b .stored)
-        (λ r p q. stored-read n (b .host r) (b .stored r) (recordOf-words n (b .stored r) ∙ h .stored r))
-        ∙ blank-off n zeroRecord (b .stored) (h .storedOff)
-
--- one member changed, and one slot
-module _ (n : ℕ) (b : Board) (h : HeldBoard n b) where
-  member-held : (i : ℕ) (m : Member) → inside n i ≡ true → HeldMember n m → HeldBoard n (withMember b i m)
-  unfolding withMember
-  member-held i m p g = record {
-    members = put-all (λ k m. inside n k ≡ true → HeldMember n m) (b .members) i m (λ q. g) (λ k d. h .members k);
-    membersOff = put-all (λ k m. inside n k ≡ false → m ≡ idle) (b .members) i m (λ q. absurd (apart p q)) (λ k d. h .membersOff k);
-    newest = h .newest;
-    hostOff = h .hostOff;
-    stored = h .stored;
-    storedOff = h .storedOff;
-  }
-
-  slot-held : (r : ℕ) (e : Entry) (s : Rec) → inside n r ≡ true → recordWithin n (e .newest) ≡ e .newest → recordWithin n s ≡ s
-      → HeldBoard n (record { members = b .members; host = put (b .host) r e; stored = put (b .stored) r s })
-  slot-held r e s p g k = record {
-    members = h .members;
-    membersOff = h .membersOff;
-    newest = put-all (λ k e. recordWithin n (e .newest) ≡ e .newest) (b .host) r e g (λ k d. h .newest k);
-    hostOff = put-all (λ k e. inside n k ≡ false → e ≡ noEntry) (b .host) r e (λ q. absurd (apart p q)) (λ k d. h .hostOff k);
-    stored = put-all (λ k s. recordWithin n s ≡ s) (b .stored) r s k (λ k d. h .stored k);
-    storedOff = put-all (λ k s. inside n k ≡ false → s ≡ zeroRecord) (b .stored) r s (λ q. absurd (apart p q)) (λ k d. h .storedOff k);
-  }
+-- one member changed, and with it the host
+member-held : (n : ℕ) (b : Board) → HeldBoard n b → (i : ℕ) (m : Member) → inside n i ≡ true → HeldMember n m
+    → (host : ℕ → Entry) (stored : ℕ → Rec) → HeldHost n host stored
+    → HeldBoard n (record { members = put (b .members) i m; host = host; stored = stored })
+member-held n b h i m p g host stored k = record {
+  members = put-all (λ k m. inside n k ≡ true → HeldMember n m) (b .members) i m (λ q. g) (λ k d. h .members k);
+  membersOff = put-all (λ k m. inside n k ≡ false → m ≡ idle) (b .members) i m (λ q. absurd (apart p q)) (λ k d. h .membersOff k);
+  host = k;
+}
 
 -- The opening.
 
@@ -282,17 +266,19 @@ idle-held n = record { block = λ i. 0; decodes = sym (member-zero n) }
 -- what holds of the blank and of each on 1 to n holds everywhere
 within-all : {A : Type 0} (Q : A → Type 0) (n : ℕ) (d : A) (f : ℕ → A) → Q d → ((k : ℕ) → Q (f k)) → (k : ℕ) → Q (within n d f k)
 unfolding within
-within-all Q n d f blank each k = on (inside n k) (λ p. rw p (each k)) (λ p. rw p blank)
+within-all Q n d f blank each k = split Q (inside n k) (λ p. each k) (λ p. blank)
 
 pub opened-held : (n : ℕ) → HeldBoard n (opened n)
 unfolding opened noEntry openingEntry
 opened-held n = record {
   members = λ i p. idle-held n;
   membersOff = λ i p. refl;
-  newest = within-all (λ e. recordWithin n (e .newest) ≡ e .newest) n noEntry openingEntry (within-zeroRecord n) (within-opening n);
-  hostOff = λ r p. within-off n noEntry openingEntry r p;
-  stored = within-all (λ r. recordWithin n r ≡ r) n zeroRecord opening (within-zeroRecord n) (within-opening n);
-  storedOff = λ r p. within-off n zeroRecord opening r p;
+  host = record {
+    newest = within-all (λ e. recordWithin n (e .newest) ≡ e .newest) n noEntry openingEntry (within-zeroRecord n) (within-opening n);
+    hostOff = λ r p. within-off n noEntry openingEntry r p;
+    whole = within-all (λ r. recordWithin n r ≡ r) n zeroRecord opening (within-zeroRecord n) (within-opening n);
+    storedOff = λ r p. within-off n zeroRecord opening r p;
+  };
 }
 
 -- Every call.
@@ -300,14 +286,8 @@ opened-held n = record {
 completed-held : {n : ℕ} {m : Member} → HeldMember n m → inside n (m .slot) ≡ true → HeldMember n (completed m)
 unfolding completed memberOf
 completed-held {n} {m} h p = dropped-held (on (eqb (w operationAt) write)
-    (λ e. record {
-      block = pasted (lastAt n) 8 (from (kept n w) (pendingAt n)) (kept n w);
-      decodes = ap tookOver (h .decodes) ∙ sym (tookOver-write n w (inside-low n (w slotAt) slot) (inside-high n (w slotAt) slot) e);
-    })
-    (λ e. record {
-      block = kept n w;
-      decodes = ap tookOver (h .decodes) ∙ sym (tookOver-read n w (inside-low n (w slotAt) slot) (inside-high n (w slotAt) slot) e);
-    }))
+    (λ e. by-words tookOver h _ (tookOver-write n w (inside-low n (w slotAt) slot) (inside-high n (w slotAt) slot) e))
+    (λ e. by-words tookOver h _ (tookOver-read n w (inside-low n (w slotAt) slot) (inside-high n (w slotAt) slot) e)))
   where
     w : ℕ → ℕ
     w = h .block
@@ -342,22 +322,28 @@ module _ (n : ℕ) (b : Board) (s : SoundBoard n b) (h : HeldBoard n b) (i : ℕ
   under-way : 1 ≤ b .members i .phase → b .members i .phase ≤ 5 → inside n (b .members i .slot) ≡ true
   under-way low high = slot-inside (inside-in 5 (b .members i .phase) low high)
 
+  -- the step of the member alone
+  one-held : (m : Member) → HeldMember n m → HeldBoard n (withMember b i m)
+  unfolding withMember
+  one-held m g = member-held n b h i m p g (b .host) (b .stored) (h .host)
+
   submit-held : b .members i .phase ≡ 1 → HeldBoard n (submitTaken b i)
-  unfolding submitTaken answered submitted withMember
+  unfolding submitTaken answered submitted
   submit-held e =
       let m = b .members i in
       let r = m .slot in
-      let sent = answered m (b .host r .newest) (b .stored r) in
-      let one = member-held n b h i sent p (noted-held 2 (b .host r .newest) (b .stored r) mine (h .newest r) (h .stored r)) in
-      rw (put-same (b .stored) r) at
-      (slot-held n (withMember b i sent) one r (submitted (b .host r) i (m .own r)) (b .stored r) (under-way (omega arith) (omega arith))
-      (h .newest r) (h .stored r))
+      let newest = h .host .newest r in
+      let stored = h .host .whole r in
+      let entry = submitted (b .host r) i (m .own r) in
+      member-held n b h i (answered m (b .host r .newest) (b .stored r)) p
+      (noted-held 2 (b .host r .newest) (b .stored r) mine newest stored) (put (b .host) r entry) (b .stored)
+      (rw (put-same (b .stored) r) at (slot-held (h .host) r entry (b .stored r) (under-way (omega arith) (omega arith)) newest stored))
 
   reply-held : b .members i .phase ≡ 2 → HeldBoard n (replyTaken n b i)
   unfolding replyTaken
   reply-held e =
       let m = b .members i in
-      member-held n b h i (replied n i m (m .first) (m .second) 3) p
+      one-held (replied n i m (m .first) (m .second) 3)
       (replied-held i (m .first) (m .second) 3 mine p (under-way (omega arith) (omega arith)) (first-held mine) (second-held mine))
 
   sent-held : recordWithin n (sentRecord i (b .members i)) ≡ sentRecord i (b .members i)
@@ -372,32 +358,31 @@ module _ (n : ℕ) (b : Board) (s : SoundBoard n b) (h : HeldBoard n b) (i : ℕ
   }
 
   commit-held : b .members i .phase ≡ 3 → HeldBoard n (commitTaken b i)
-  unfolding commitTaken entryAfter storedAfter withMember
+  unfolding commitTaken entryAfter storedAfter
   commit-held e =
       let m = b .members i in
       let r = m .slot in
       let c = sentRecord i m in
-      let judge : (won : Bool) → HeldBoard n (withMember b i (judged m won)) =
-      λ won. member-held n b h i (judged m won) p (judged-held won mine) in
+      let entry : Entry = record { submitMember = 0; submitCount = 0; newest = c } in
+      let stored = cond (becomesStored c) c (b .stored r) in
       by-verdict (HeldBoard n) b i
-      (λ won. rw won (slot-held n (withMember b i (judged m true)) (judge true) r
-      (record { submitMember = 0; submitCount = 0; newest = c }) (cond (becomesStored c) c (b .stored r))
-      (under-way (omega arith) (omega arith)) sent-held
-      (split {A = Rec} (λ s. recordWithin n s ≡ s) (becomesStored c) (λ t. sent-held) (λ t. h .stored r))))
-      (λ lost. judge false)
+      (λ won. rw won (member-held n b h i (judged m true) p (judged-held true mine) (put (b .host) r entry) (put (b .stored) r stored)
+      (slot-held (h .host) r entry stored (under-way (omega arith) (omega arith)) sent-held
+      (split {A = Rec} (λ s. recordWithin n s ≡ s) (becomesStored c) (λ t. sent-held) (λ t. h .host .whole r)))))
+      (λ lost. one-held (judged m false) (judged-held false mine))
 
 -- Every step.
 pub taken-held : {kind : Kind} {n : ℕ} {b next : Board} {call : Call} → Taken kind n b call next → SoundBoard n b → HeldBoard n b
     → CallHeld call → HeldBoard n next
 unfolding boardBegun outcomeTaken boardCrashed
 taken-held {n = n} {b = b} (begins i r t v k) s h eight =
-    member-held n b h i (begun (b .members i) r t v) (k .member) (begun-held r t v (h .members i (k .member)) (k .slot) eight)
+    one-held n b s h i (k .member) (begun (b .members i) r t v) (begun-held r t v (h .members i (k .member)) (k .slot) eight)
 taken-held {n = n} {b = b} (submits i p e) s h _ = submit-held n b s h i p e
 taken-held {n = n} {b = b} (replies i p e) s h _ = reply-held n b s h i p e
 taken-held {n = n} {b = b} (commits i p e) s h _ = commit-held n b s h i p e
 taken-held {n = n} {b = b} (ends i p l six) s h _ =
     let m = b .members i in
     let high = s .members i p .phase in
-    member-held n b h i (outcome m (eqb (m .phase) 4)) p
+    one-held n b s h i p (outcome m (eqb (m .phase) 4))
     (outcome-held (eqb (m .phase) 4) (h .members i p) (under-way n b s h i p (omega arith) (omega arith)))
-taken-held {n = n} {b = b} (crashes i p) s h _ = member-held n b h i (crashedOf (b .members i)) p (crashed-held (h .members i p))
+taken-held {n = n} {b = b} (crashes i p) s h _ = one-held n b s h i p (crashedOf (b .members i)) (crashed-held (h .members i p))

@@ -10,8 +10,7 @@ use lib.ListN.{length}
 use borrow.Author.Tests.{eq-eqb}
 use Rattle.lists.specs.Functions.{put, inside, within}
 use Rattle.lists.specs.Parts.{words}
-use Rattle.lists.proofs.Functions.{on, both, apart, put-same, put-all, put-both, each-all, inside-in, inside-high, within-off}
-use Rattle.lists.proofs.Functions.{within-same}
+use Rattle.lists.proofs.Functions.{_and_, on, both, put-same, put-both, each-all, inside-in, inside-high, within-off}
 use Rattle.lists.proofs.Pieces.{pieces-laid}
 use Rattle.model.specs.Records.{Rec, read, write, zeroRecord, recordWithin}
 use Rattle.model.specs.RecordWords.{recordWords}
@@ -28,27 +27,22 @@ use Rattle.model.specs.HostClaims.{Half, halfOpened, halfAfter, halfAnswer, hal
 use Rattle.model.specs.HostClaims.{onSlot1, sample}
 use Rattle.model.proofs.HostHalf.{fit-parts, half-as-published, sample-holds}
 use Rattle.laws.proofs.Records.{recordOf-words, within-read, within-zeroRecord}
-use Rattle.laws.proofs.Blocks.{entry-same, stored-same, length-entry, entry-read, stored-read}
+use Rattle.laws.proofs.Blocks.{entry-same, stored-same, length-entry}
 use Rattle.laws.proofs.Tables.{length-host}
 use Rattle.laws.proofs.Sound.{record-sound, SoundSlot, entry-sound}
 use Rattle.runs.specs.HostWords.{entriesOpened, callNumber, callWords, callAnswer, callAnswers, taken, MessageHeld}
 use Rattle.runs.specs.HostWords.{WordsAsPublished, strayed, SampleInWords}
 use Rattle.runs.proofs.Sound.{operation-small, opened-sound}
-use Rattle.runs.proofs.Held.{blank-off, opened-held}
+use Rattle.runs.proofs.Held.{blank-off, HeldHost, host-back, stored-back, slot-held, opened-held}
 
 -- A half that words can hold, and that number 3 does not refuse.
 record Kept (n : ℕ) (h : Half) : Type 0 where
-  newest : (r : ℕ) → recordWithin n (h .host r .newest) ≡ h .host r .newest
-  hostOff : (r : ℕ) → inside n r ≡ false → h .host r ≡ noEntry
-  stored : (r : ℕ) → recordWithin n (h .stored r) ≡ h .stored r
-  storedOff : (r : ℕ) → inside n r ≡ false → h .stored r ≡ zeroRecord
+  held : HeldHost n (h .host) (h .stored)
   slots : (r : ℕ) → inside n r ≡ true → SoundSlot n (h .host r) (h .stored r)
 
 opened-kept : (n : ℕ) → Kept n (halfOpened n)
 unfolding halfOpened
-opened-kept n =
-    let h = opened-held n in
-    record { newest = h .newest; hostOff = h .hostOff; stored = h .stored; storedOff = h .storedOff; slots = opened-sound n .slots }
+opened-kept n = record { held = opened-held n .host; slots = opened-sound n .slots }
 
 abbrev wordsOf : ℕ → Half → List ℕ
 wordsOf n h = hostWords n (h .host) (h .stored)
@@ -59,18 +53,14 @@ module _ (n : ℕ) (h : Half) (k : Kept n h) where
   host-read =
       pieces-laid n noEntry (entrySize n) (entryOf n) (entry-same n) (λ r. entryWords n (h .host r) (h .stored r))
       (λ r p q. length-entry n (h .host r) (h .stored r))
-      ∙ within-same n noEntry (λ r. entryOf n (words (entryWords n (h .host r) (h .stored r)))) (h .host)
-      (λ r p q. entry-read n (h .host r) (h .stored r) (recordOf-words n (h .host r .newest) ∙ k .newest r))
-      ∙ blank-off n noEntry (h .host) (k .hostOff)
+      ∙ host-back (k .held)
 
   stored-records-read : storedRecordsOf n (words (wordsOf n h)) ≡ h .stored
   unfolding storedRecordsOf hostWords
   stored-records-read =
       pieces-laid n zeroRecord (entrySize n) (storedOf n) (stored-same n) (λ r. entryWords n (h .host r) (h .stored r))
       (λ r p q. length-entry n (h .host r) (h .stored r))
-      ∙ within-same n zeroRecord (λ r. storedOf n (words (entryWords n (h .host r) (h .stored r)))) (h .stored)
-      (λ r p q. stored-read n (h .host r) (h .stored r) (recordOf-words n (h .stored r) ∙ k .stored r))
-      ∙ blank-off n zeroRecord (h .stored) (k .storedOff)
+      ∙ stored-back (k .held)
 
   sound : soundHost n (h .host) (h .stored) ≡ true
   unfolding soundHost
@@ -131,10 +121,7 @@ module _ (n : ℕ) (size : isSize n ≡ true) (h : Half) (k : Kept n h) where
   slot-kept : (r : ℕ) (e : Entry) (s : Rec) → inside n r ≡ true → recordWithin n (e .newest) ≡ e .newest → recordWithin n s ≡ s
       → SoundSlot n e s → Kept n (record { host = put (h .host) r e; stored = put (h .stored) r s })
   slot-kept r e s p a b c = record {
-    newest = put-all (λ j e. recordWithin n (e .newest) ≡ e .newest) (h .host) r e a (λ j d. k .newest j);
-    hostOff = put-all (λ j e. inside n j ≡ false → e ≡ noEntry) (h .host) r e (λ q. absurd (apart p q)) (λ j d. k .hostOff j);
-    stored = put-all (λ j s. recordWithin n s ≡ s) (h .stored) r s b (λ j d. k .stored j);
-    storedOff = put-all (λ j s. inside n j ≡ false → s ≡ zeroRecord) (h .stored) r s (λ q. absurd (apart p q)) (λ j d. k .storedOff j);
+    held = slot-held (k .held) r e s p a b;
     slots = put-both (λ j e s. inside n j ≡ true → SoundSlot n e s) (h .host) (h .stored) r e s (λ q. c) (λ j d. k .slots j);
   }
 
@@ -146,7 +133,7 @@ module _ (n : ℕ) (size : isSize n ≡ true) (h : Half) (k : Kept n h) where
       let s = k .slots r (p .1) in
       let e = submitted (h .host r) (id .client) (id .count) in
       rw (put-same (h .stored) r) at
-      (slot-kept r e (h .stored r) (p .1) (k .newest r) (k .stored r) (inside-high n (id .client) (p .0), s .1, s .2))
+      (slot-kept r e (h .stored r) (p .1) (k .held .newest r) (k .held .whole r) (inside-high n (id .client) (p .0), s .1, s .2))
 
   commit-kept : (op : Rec) → fits n (idOf op) ≡ true → recordWithin n op ≡ op → Kept n (halfAfter h (commit op))
   unfolding halfAfter entryAfter storedAfter idOf
@@ -156,8 +143,8 @@ module _ (n : ℕ) (size : isSize n ≡ true) (h : Half) (k : Kept n h) where
       let e = h .host r in
       let s = k .slots r (p .1) in
       slot-kept r (entryAfter e op) (storedAfter e (h .stored r) op) (p .1)
-      (on (wins e op) (λ t. rw t held) (λ t. rw t (k .newest r)))
-      (on (wins e op && becomesStored op) (λ t. rw t held) (λ t. rw t (k .stored r))) (
+      (on (wins e op) (λ t. rw t held) (λ t. rw t (k .held .newest r)))
+      (on (wins e op && becomesStored op) (λ t. rw t held) (λ t. rw t (k .held .whole r))) (
         on (wins e op) (λ t. rw t (omega arith)) (λ t. rw t (s .0)),
         on (wins e op && becomesStored op) (λ t. rw t op-sound) (λ t. rw t (s .1)),
         on (wins e op) (λ t. rw t op-sound) (λ t. rw t (s .2)),
@@ -227,28 +214,9 @@ on-slot-held i t k = λ j. record {
 
 strayed-held : Every (MessageHeld 2) strayed
 unfolding strayed sample
-strayed-held = (
-  tt,
-  (
-    tt,
-    (
-      tt,
-      (
-        on-slot-held 1 write 1,
-        (
-          on-slot-held 2 read 1,
-          (
-            tt,
-            (
-              on-slot-held 1 write 2,
-              (tt, (on-slot-held 2 read 2, tt)),
-            ),
-          ),
-        ),
-      ),
-    ),
-  ),
-)
+strayed-held =
+    tt and tt and tt and on-slot-held 1 write 1 and on-slot-held 2 read 1 and tt and on-slot-held 1 write 2 and tt
+    and on-slot-held 2 read 2 and tt
 
 strayed-taken : taken 2 strayed ≡ sample
 unfolding taken strayed sample fits idIn idOf inside isOperation barred onSlot1
