@@ -1,11 +1,16 @@
 // The board program: a script from standard input, and what it prints to standard output.
-ghost use Prim.Native.Nat.{_≤_};
+ghost use Prim.Native.Nat.{_-_, _≤_, _<_};
 ghost use mathlib.Core.Path.{_≡_};
+ghost use mathlib.Core.Bool.{true, false, cond, not, _&&_};
+ghost use lib.Dec.{ltb};
 ghost use lib.ListN.{length};
-ghost use Rattle.script_run.specs.Meaning.{Ready};
+ghost use Rattle.script.specs.Meaning.{longestPrinted};
+ghost use Rattle.script_run.specs.Feeding.{mostKept, over};
+ghost use Rattle.script_run.specs.Meaning.{mostWords, stateOf, Ready, FedAll};
 use libc::STDIN_FILENO;
 use libc::STDOUT_FILENO;
-use script_run::MOST_STEPS;
+use script_run::MOST_KEPT;
+use script_run::MOST_WORDS;
 use script_run::Progress;
 use script_run::steps::feed;
 use script_run::steps::finish;
@@ -16,7 +21,7 @@ struct Turn {
     more: bool,
 }
 
-// Writes the first bytes of the output, and answers whether it could.
+// Writes bytes, and answers whether it could.
 fn write_out(bytes: &[u8]) -> bool {
     let written = io::write_all(STDOUT_FILENO, bytes);
     if !written {
@@ -33,8 +38,9 @@ fn feed_all(
     bytes: &[u8],
     out: &mut [u8],
 ) -> Progress
-    requires { ⌜ (Ready p (now table) (now kept)) × (44 ≤ length (now out)) ⌝ }
+    requires { ⌜ (Ready p (now table) (now kept)) × (longestPrinted ≤ length (now out)) ⌝ }
     ensures { λ r. ⌜ Ready r (now (table .exit)) (now (kept .exit)) ⌝ }
+    ensures { λ r. ⌜ FedAll p (now (table .entry)) (now (kept .entry)) (now (bytes .entry)) r (now (table .exit)) (now (kept .exit)) ⌝ }
 {
     let mut progress = p;
     let mut from = 0;
@@ -50,7 +56,27 @@ fn feed_all(
     progress
 }
 
-// Reads once. Nothing is fed at the end of the input; where reading fails the script is over.
+// Takes the bytes that a reading got. There may be more to read if it got any, and the script is not over.
+fn take_piece(table: &mut [u32], kept: &mut [u8], p: Progress, bytes: &[u8], out: &mut [u8]) -> Turn
+    requires { ⌜ (Ready p (now table) (now kept)) × (longestPrinted ≤ length (now out)) ⌝ }
+    ensures { λ r. ⌜ Ready (r .progress) (now (table .exit)) (now (kept .exit)) ⌝ }
+    ensures { λ r. ⌜ FedAll p (now (table .entry)) (now (kept .entry)) (now (bytes .entry)) (r .progress) (now (table .exit)) (now (kept .exit)) ⌝ }
+    ensures { λ r. ⌜ r .more ≡ (ltb 0 (length (now (bytes .entry))) && not (over (stateOf (r .progress) (now (table .exit)) (now (kept .exit))))) ⌝ }
+{
+    let progress = feed_all(table, kept, p, bytes, out);
+    if bytes.len() == 0 {
+        return Turn {
+            progress,
+            more: false,
+        };
+    }
+    Turn {
+        progress,
+        more: !progress.is_over(),
+    }
+}
+
+// Reads once. Where that fails the script is over.
 fn read_some(
     table: &mut [u32],
     kept: &mut [u8],
@@ -58,8 +84,9 @@ fn read_some(
     input: &mut [u8],
     out: &mut [u8],
 ) -> Turn
-    requires { ⌜ (Ready p (now table) (now kept)) × (44 ≤ length (now out)) ⌝ }
+    requires { ⌜ (Ready p (now table) (now kept)) × (longestPrinted ≤ length (now out)) ⌝ }
     ensures { λ r. ⌜ Ready (r .progress) (now (table .exit)) (now (kept .exit)) ⌝ }
+    ensures { λ r. ⌜ (over (stateOf (r .progress) (now (table .exit)) (now (kept .exit))) ≡ true → r .more ≡ false) ⌝ }
 {
     let got = libc::read(STDIN_FILENO, input);
     if got < 0 {
@@ -70,40 +97,38 @@ fn read_some(
         };
     }
     let n = io::count(got, input);
-    if n == 0 {
-        return Turn {
-            progress: p,
-            more: false,
-        };
+    take_piece(table, kept, p, &input[..n], out)
+}
+
+// One turn fewer, or none where there is no more to read.
+fn turns_left(turns: u64, more: bool) -> u64
+    requires { ⌜ 0 < turns ⌝ }
+    ensures { λ r. ⌜ (r ≡ cond more (turns - 1) 0) × (r < turns) ⌝ }
+{
+    if !more {
+        return 0;
     }
-    let progress = feed_all(table, kept, p, &input[..n], out);
-    Turn {
-        progress,
-        more: progress.step <= MOST_STEPS,
-    }
+    turns - 1
 }
 
 // Reads until the input or the script is over. A proved loop has to end, so it counts its turns down, from a number that no run uses up.
 fn run(table: &mut [u32], kept: &mut [u8], input: &mut [u8], out: &mut [u8])
-    requires { ⌜ (length (now table) ≡ 9781) × ((length (now kept) ≡ 28) × (44 ≤ length (now out))) ⌝ }
+    requires { ⌜ (length (now table) ≡ mostWords) × ((length (now kept) ≡ mostKept) × (longestPrinted ≤ length (now out))) ⌝ }
 {
     let mut progress = Progress::START;
     let mut turns = u64::MAX;
-    while turns > 0 {
+    while 0 < turns {
         let turn = read_some(table, kept, progress, input, out);
         progress = turn.progress;
-        turns -= 1;
-        if !turn.more {
-            turns = 0;
-        }
+        turns = turns_left(turns, turn.more);
     }
     let last = finish(table, kept, progress, out);
     write_out(&out[..last]);
 }
 
 fn main() {
-    let mut table = [0u32; 9781];
-    let mut kept = [0u8; 28];
+    let mut table = [0u32; MOST_WORDS];
+    let mut kept = [0u8; MOST_KEPT];
     let mut input = io::large_buffer();
     let mut out = io::large_buffer();
     run(&mut table, &mut kept, &mut input, &mut out);

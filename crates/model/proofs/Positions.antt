@@ -13,10 +13,10 @@ use Rattle.lists.specs.Functions.{put}
 use Rattle.lists.specs.Every.{Every, Some}
 use Rattle.lists.proofs.Functions.{put-at, split}
 use Rattle.model.specs.Records.{Value}
-use Rattle.model.specs.Runs.{Call, begin, deliver, crash, Seen}
+use Rattle.model.specs.Runs.{Call, begin, deliver, crash, Seen, Step, step}
 use Rattle.model.specs.History.{Op, Watch, noOp, begunOp, submittedOp, submitOf, decidedOp, watchDeliver, watchCall, watchStep}
 use Rattle.model.specs.History.{watchFrom, nothingYet, watched}
-use Rattle.model.specs.Positions.{Step, step, stepAt, beganBy, begunCount, Placed, AllPlaced, Positions}
+use Rattle.model.specs.Positions.{stepAt, beganBy, begunCount, Placed, AllPlaced, Positions}
 use Rattle.model.proofs.HistoryLists.{every}
 use Rattle.model.proofs.HistorySteps.{watch-verdict}
 use Rattle.model.proofs.Phases.{Next, submitted, answered, judged, ended as completes, Moves, StepMoves, RunMoves, verdict-high}

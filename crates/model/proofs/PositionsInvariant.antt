@@ -9,9 +9,9 @@ use mathlib.Core.Option.{Option, none}
 use Rattle.lists.specs.Functions.{put}
 use Rattle.lists.specs.Every.{Every, Some}
 use Rattle.model.specs.Records.{Value}
-use Rattle.model.specs.Runs.{Call, begin, deliver, crash, Seen}
+use Rattle.model.specs.Runs.{Call, begin, deliver, crash, Seen, Step}
 use Rattle.model.specs.History.{Op, Submit, Watch, begunOp, submittedOp, submitOf, decidedOp, endedOp, ended}
-use Rattle.model.specs.Positions.{Step, IsBegin, IsDeliver, beganBy, begunCount, Begun, Decided}
+use Rattle.model.specs.Positions.{IsBegin, IsDeliver, beganBy, begunCount, Begun, Decided}
 
 -- The six moves of a watch and of the phases, given the step of each number.
 

@@ -12,9 +12,9 @@ use Rattle.lists.specs.Functions.{put}
 use Rattle.lists.specs.Every.{Every, Some}
 use Rattle.lists.proofs.Functions.{put-at, put-all, put-both, split}
 use Rattle.model.specs.Records.{Value}
-use Rattle.model.specs.Runs.{Call, begin, deliver, crash, Seen}
+use Rattle.model.specs.Runs.{Call, begin, deliver, crash, Seen, Step}
 use Rattle.model.specs.History.{Op, Submit, Watch, begunOp, submittedOp, submitOf, decidedOp, endedOp, ended}
-use Rattle.model.specs.Positions.{Step, IsBegin, IsDeliver, beganBy, begunCount, Decided}
+use Rattle.model.specs.Positions.{IsBegin, IsDeliver, beganBy, begunCount, Decided}
 use Rattle.model.proofs.HistoryLists.{every, every-ended}
 use Rattle.model.proofs.Ordinals.{count-next, count-same, begin-counts, deliver-counts}
 use Rattle.model.proofs.PositionsInvariant.{withRunning, nextOp, Moved, stays, begins, submits, replies, judges, ends}

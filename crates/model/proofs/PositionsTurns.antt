@@ -12,7 +12,8 @@ use Rattle.lists.specs.Every.{Every}
 use Rattle.lists.proofs.Functions.{put-all, put-both, split}
 use Rattle.model.specs.Records.{Value}
 use Rattle.model.specs.History.{Op, Watch, begunOp, submittedOp, decidedOp, endedOp, ended}
-use Rattle.model.specs.Positions.{Step, After, InTurn}
+use Rattle.model.specs.Runs.{Step}
+use Rattle.model.specs.Positions.{After, InTurn}
 use Rattle.model.proofs.HistoryLists.{every, every-ended}
 use Rattle.model.proofs.Phases.{verdict-high}
 use Rattle.model.proofs.PositionsInvariant.{Moved, stays, begins, submits, replies, judges, ends, Places, nextOp}

@@ -9,13 +9,9 @@ use mathlib.Core.Option.{Option, none, some}
 use lib.Dec.{eqb}
 use Rattle.lists.specs.Every.{Every, Some}
 use Rattle.model.specs.Records.{Value, write, zeroValue}
-use Rattle.model.specs.Runs.{Call, begin, deliver, crash, Seen}
+use Rattle.model.specs.Runs.{Call, begin, deliver, crash, Seen, Step, step}
 use Rattle.model.specs.Reference.{Operation}
 use Rattle.model.specs.History.{Op, Submit, Watch}
-
--- a call and what was seen at it
-pub data Step : Type 0 where
-  step : Call → Seen → Step
 
 -- the step of a number, from 1; none where there is no such step
 unfoldable pub stepAt : List Call → List Seen → ℕ → Option Step

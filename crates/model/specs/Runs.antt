@@ -22,6 +22,10 @@ pub record Seen : Type 0 where
   pub phases : ℕ → ℕ
   pub returned : Option Value
 
+-- a call and what was seen at it
+pub data Step : Type 0 where
+  step : Call → Seen → Step
+
 unfoldable pub answerOf : Kind → ℕ → Board → Call → ℕ
 answerOf kind n b (begin i r t v) =
     let m = b .members i in

@@ -1,4 +1,4 @@
--- The board program's lines as bytes: how they are read, what each does, and what is printed. Document 01, "The board program".
+-- The board program's lines as bytes: how they are read, what each does, and what is printed in the end. Document 01, "The board program".
 use Prim.Native.Nat.{ℕ, zero, suc, _+_, _-_, _*_, _/_, _%_, _^_, _<_}
 use Prim.Native.Char.{code}
 use Prim.Native.String.{String}
@@ -12,9 +12,9 @@ use Rattle.lists.specs.Parts.{words}
 use Rattle.model.specs.Records.{Value, zeroValue, read, write}
 use Rattle.model.specs.Kinds.{Kind}
 use Rattle.model.specs.Board.{opened}
-use Rattle.model.specs.Runs.{Call, begin, deliver, crash}
+use Rattle.model.specs.Runs.{Call, begin, deliver, crash, Step, step}
 use Rattle.model.specs.Table.{tableWords}
-use Rattle.model.specs.TableCalls.{tableAnswer, tableAfter, tableReturns, phaseWords}
+use Rattle.model.specs.TableCalls.{tableAfter, tableSeen}
 
 -- Bytes.
 
@@ -157,28 +157,6 @@ Bounded malformed = ⊥
 unfoldable pub firstOf : List ℕ → Option ℕ
 firstOf l = cond (startsWith membersWord l) (numberOf (drop (length membersWord) l)) none
 
--- What is printed.
-
-unfoldable pub orDash : Option ℕ → List ℕ
-orDash none = dash ∷ []
-orDash (some x) = digits x
-
--- a number or `-`, and the byte after it
-abbrev pub field : Option ℕ → ℕ → List ℕ
-field x end = orDash x ++ (end ∷ [])
-
--- "step, answer, the member's phase after it, and the last word of a sheet just returned or `-`"
-unfoldable pub printedLine : ℕ → ℕ → Option ℕ → Option ℕ → List ℕ
-printedLine step answer phase word =
-    field (some step) space ++ (field (some answer) space ++ (field phase space ++ field word lineFeed))
-
--- `board N`, or `board refused 17` (or `1`)
-unfoldable pub boardLine : ℕ → List ℕ
-boardLine n = boardWord ++ field (some n) lineFeed
-
-unfoldable pub refusedLine : ℕ → List ℕ
-refusedLine number = refusedWord ++ field (some number) lineFeed
-
 -- Steps.
 
 -- the call that a line makes: "V fills the sheet's last word, the other seven being zero"; a script's write is to the member's own slot
@@ -194,29 +172,26 @@ caller (begin i r t v) = i
 caller (deliver i) = i
 caller (crash i) = i
 
-unfoldable pub lastWord : Option Value → Option ℕ
-lastWord none = none
-lastWord (some v) = some (v 8)
-
--- the table after a step, and the line printed
+-- the table after a line, and what happened at it: the call and what was seen, or none where the line makes no call
 pub record Stepped : Type 0 where
   pub table : List ℕ
-  pub printed : List ℕ
+  pub happened : Option Step
 
--- "For 4 and 17 the phase is `-`." A line of another form is a step that leaves the table.
-unfoldable pub stepped : Kind → ℕ → List ℕ → Option Call → Stepped
-stepped kind step table none = record { table = table; printed = printedLine step 17 none none }
-stepped kind step table (some call) =
-    let answer = tableAnswer kind table call in
-    let left = tableAfter kind table call in
-    record {
-      table = left;
-      printed =
-          printedLine step answer (cond (eqb answer 4) none (some (phaseWords left (caller call)))) (lastWord (tableReturns kind table call));
-    }
+-- A line of another form is a step that leaves the table.
+unfoldable pub stepped : Kind → List ℕ → Option Call → Stepped
+stepped kind table none = record { table = table; happened = none }
+stepped kind table (some call) =
+    record { table = tableAfter kind table call; happened = some (step call (tableSeen kind table call)) }
 
-unfoldable pub stepLine : Kind → ℕ → List ℕ → List ℕ → Stepped
-stepLine kind step table line = stepped kind step table (callOf (lineOf line))
+unfoldable pub stepLine : Kind → List ℕ → List ℕ → Stepped
+stepLine kind table line = stepped kind table (callOf (lineOf line))
+
+-- each line, on the table that the one before left
+unfoldable pub stepsFrom : Kind → List ℕ → List (List ℕ) → List (Option Step)
+stepsFrom kind table [] = []
+stepsFrom kind table (line ∷ lines) =
+    let s = stepLine kind table line in
+    s .happened ∷ stepsFrom kind (s .table) lines
 
 -- Whole scripts.
 
@@ -229,27 +204,69 @@ unfoldable pub linesOf : List ℕ → List (List ℕ)
 linesOf [] = []
 linesOf (b ∷ l) = cond (eqb b lineFeed) ([] ∷ linesOf l) (withByte b (linesOf l))
 
--- what each line prints, on the table that the one before left
-unfoldable pub stepsPrinted : Kind → ℕ → List ℕ → List (List ℕ) → List ℕ
-stepsPrinted kind step table [] = []
-stepsPrinted kind step table (line ∷ lines) =
-    let s = stepLine kind step table line in
-    s .printed ++ stepsPrinted kind (step + 1) (s .table) lines
-
 -- "It ends after 1,000,000 steps."
 abbrev pub mostSteps : ℕ
 mostSteps = 1000000
 
-unfoldable pub boardPrinted : Kind → Option ℕ → List (List ℕ) → List ℕ
-boardPrinted kind none lines = refusedLine 17
-boardPrinted kind (some n) lines =
-    cond (inside (kind .most) n) (boardLine n ++ stepsPrinted kind 1 (tableWords n (opened n)) (take mostSteps lines)) (refusedLine 1)
+-- a script's run: the first line is refused with a number, or a board of n members is opened, and each line after it is a step
+pub data Run : Type 0 where
+  refused : ℕ → Run
+  ran : ℕ → List (Option Step) → Run
+
+unfoldable pub boardRun : Kind → Option ℕ → List (List ℕ) → Run
+boardRun kind none lines = refused 17
+boardRun kind (some n) lines =
+    cond (inside (kind .most) n) (ran n (stepsFrom kind (tableWords n (opened n)) (take mostSteps lines))) (refused 1)
 
 -- an empty script has no first line
-unfoldable pub linesPrinted : Kind → List (List ℕ) → List ℕ
-linesPrinted kind [] = refusedLine 17
-linesPrinted kind (line ∷ lines) = boardPrinted kind (firstOf line) lines
+unfoldable pub linesRun : Kind → List (List ℕ) → Run
+linesRun kind [] = refused 17
+linesRun kind (line ∷ lines) = boardRun kind (firstOf line) lines
+
+unfoldable pub scriptRun : Kind → List ℕ → Run
+scriptRun kind input = linesRun kind (linesOf input)
+
+-- What is printed of a run.
+
+unfoldable pub orDash : Option ℕ → List ℕ
+orDash none = dash ∷ []
+orDash (some x) = digits x
+
+-- a number or `-`, and the byte after it
+abbrev pub field : Option ℕ → ℕ → List ℕ
+field x end = orDash x ++ (end ∷ [])
+
+-- "step, answer, the member's phase after it, and the last word of a sheet just returned or `-`"
+unfoldable pub printedLine : ℕ → ℕ → Option ℕ → Option ℕ → List ℕ
+printedLine k answer phase word =
+    field (some k) space ++ (field (some answer) space ++ (field phase space ++ field word lineFeed))
+
+unfoldable pub lastWord : Option Value → Option ℕ
+lastWord none = none
+lastWord (some v) = some (v 8)
+
+-- "For 4 and 17 the phase is `-`."
+unfoldable pub printedStep : ℕ → Option Step → List ℕ
+printedStep k none = printedLine k 17 none none
+printedStep k (some (step call s)) =
+    printedLine k (s .answer) (cond (eqb (s .answer) 4) none (some (s .phases (caller call)))) (lastWord (s .returned))
+
+-- the steps from number k on
+unfoldable pub printedSteps : ℕ → List (Option Step) → List ℕ
+printedSteps k [] = []
+printedSteps k (s ∷ steps) = printedStep k s ++ printedSteps (k + 1) steps
+
+-- `board N`, or `board refused 17` (or `1`)
+unfoldable pub boardLine : ℕ → List ℕ
+boardLine n = boardWord ++ field (some n) lineFeed
+
+unfoldable pub refusedLine : ℕ → List ℕ
+refusedLine number = refusedWord ++ field (some number) lineFeed
+
+unfoldable pub printedRun : Run → List ℕ
+printedRun (refused number) = refusedLine number
+printedRun (ran n steps) = boardLine n ++ printedSteps 1 steps
 
 -- the program: what it prints of what it reads
 unfoldable pub scriptOutput : Kind → List ℕ → List ℕ
-scriptOutput kind input = linesPrinted kind (linesOf input)
+scriptOutput kind input = printedRun (scriptRun kind input)

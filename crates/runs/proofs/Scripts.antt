@@ -1,8 +1,9 @@
--- A script is a run of demand 3's theorem: what its lines print is what is seen at their calls. Assumes nothing.
-use Prim.Native.Nat.{ℕ, _+_}
+-- A script is a run of demand 3's theorem: by induction over its lines, the k-th step makes the k-th line's call on the
+-- table that the one before left.
+use Prim.Native.Nat.{ℕ}
 use mathlib.Core.Path.{_≡_, refl, ap, _∙_}
 use mathlib.Core.Bool.{true}
-use mathlib.Core.List.{List, [], _∷_, _++_}
+use mathlib.Core.List.{List, [], _∷_, map}
 use mathlib.Core.Option.{Option, none, some}
 use lib.ListN.{take, length}
 use borrow.Author.Tests.{eq-eqb}
@@ -13,39 +14,41 @@ use Rattle.model.specs.Runs.{Call}
 use Rattle.lists.specs.Every.{Every}
 use Rattle.model.specs.Table.{tableSize, tableWords}
 use Rattle.model.specs.TableCalls.{openNumber, openWords, tableSeen, tableRun}
-use Rattle.model.specs.Script.{Line, writes, reads, delivers, crashes, malformed, lineOf, callOf, stepped, stepLine, stepsPrinted}
-use Rattle.model.specs.Script.{boardPrinted, linesPrinted, linesOf, firstOf, mostSteps, scriptOutput}
+use Rattle.model.specs.Script.{Line, writes, reads, delivers, crashes, malformed, lineOf, callOf, stepped, stepLine, stepsFrom}
+use Rattle.model.specs.Script.{linesOf, firstOf, mostSteps, boardRun, linesRun, scriptRun, printedRun, scriptOutput}
 use Rattle.laws.proofs.Tables.{length-table}
-use Rattle.runs.specs.Scripts.{withCall, callsOf, seenPrinted, seenBehind, linesSeen, StepsRun, ScriptRun}
+use Rattle.runs.specs.Scripts.{lineCall, stepCall, withCall, callsOf, withSeen, seenOf, StepsRun, ScriptRun}
 use Rattle.runs.proofs.Held.{CallHeld}
 use Rattle.runs.proofs.Words.{zero-held, last-held}
 use Rattle.runs.proofs.Tables.{demand3-on-tables}
 
--- A line beside its call. On any table.
+-- Lines and their steps, on any table.
 
-module _ (kind : Kind) (step : ℕ) (table : List ℕ) (calls : List Call) where
-  line-printed : (call : Option Call)
-      → stepped kind step table call .printed ≡ seenPrinted step call (tableRun kind table (withCall call calls))
-  unfolding stepped seenPrinted tableRun tableSeen withCall
-  line-printed none = refl
-  line-printed (some call) = refl
+stepped-call : (kind : Kind) (table : List ℕ) (call : Option Call) → stepCall (stepped kind table call .happened) ≡ call
+unfolding stepped stepCall
+stepped-call kind table none = refl
+stepped-call kind table (some call) = refl
 
-  line-behind : (call : Option Call)
-      → tableRun kind (stepped kind step table call .table) calls ≡ seenBehind call (tableRun kind table (withCall call calls))
-  unfolding stepped seenBehind tableRun withCall
-  line-behind none = refl
-  line-behind (some call) = refl
+pub steps-made : (kind : Kind) (table : List ℕ) (lines : List (List ℕ)) → map stepCall (stepsFrom kind table lines) ≡ map lineCall lines
+unfolding stepsFrom stepLine
+steps-made kind table [] = refl
+steps-made kind table (line ∷ lines) =
+    (λ i. stepped-call kind table (lineCall line) i ∷ steps-made kind (stepLine kind table line .table) lines i)
 
-pub lines-seen : (kind : Kind) (step : ℕ) (table : List ℕ) (lines : List (List ℕ))
-    → stepsPrinted kind step table lines ≡ linesSeen step lines (tableRun kind table (callsOf lines))
-unfolding stepsPrinted stepLine linesSeen callsOf
-lines-seen kind step table [] = refl
-lines-seen kind step table (line ∷ lines) =
-    let call = callOf (lineOf line) in
-    ap (λ p. p ++ stepsPrinted kind (step + 1) (stepped kind step table call .table) lines) (line-printed kind step table (callsOf lines) call)
-    ∙ ap (λ r. seenPrinted step call (tableRun kind table (withCall call (callsOf lines))) ++ r)
-    (lines-seen kind (step + 1) (stepped kind step table call .table) lines
-    ∙ ap (linesSeen (step + 1) lines) (line-behind kind step table (callsOf lines) call))
+-- the step of a line before those of the others, whose calls are made on the table that it leaves
+stepped-seen : (kind : Kind) (table : List ℕ) (call : Option Call) (calls : List Call)
+    → withSeen (stepped kind table call .happened) (tableRun kind (stepped kind table call .table) calls) ≡ tableRun kind table (withCall call calls)
+unfolding stepped withSeen withCall tableRun
+stepped-seen kind table none calls = refl
+stepped-seen kind table (some call) calls = refl
+
+pub steps-seen : (kind : Kind) (table : List ℕ) (lines : List (List ℕ))
+    → seenOf (stepsFrom kind table lines) ≡ tableRun kind table (callsOf lines)
+unfolding stepsFrom stepLine seenOf callsOf tableRun
+steps-seen kind table [] = refl
+steps-seen kind table (line ∷ lines) =
+    let s = stepped kind table (lineCall line) in
+    ap (withSeen (s .happened)) (steps-seen kind (s .table) lines) ∙ stepped-seen kind table (lineCall line) (callsOf lines)
 
 -- The values of a script's calls have 8 words.
 
@@ -73,19 +76,22 @@ module _ (kind : Kind) (n : ℕ) (size : inside (kind .most) n ≡ true) where
   unfolding openWords
   open-left = rw open-taken
 
-  pub steps-run : (lines : List (List ℕ)) → StepsRun kind n lines (stepsPrinted kind 1 (tableWords n (opened n)) lines)
-  steps-run lines = record {
-    seen = tableRun kind (tableWords n (opened n)) (callsOf lines);
-    run = refl;
-    prints = lines-seen kind 1 (tableWords n (opened n)) lines;
-    holds = rw open-left at (demand3-on-tables kind n (tableWords n (opened n)) open-taken (callsOf lines) (calls-held lines));
-  }
+  pub steps-run : (lines : List (List ℕ)) → StepsRun kind n lines (stepsFrom kind (tableWords n (opened n)) lines)
+  steps-run lines =
+      let table = tableWords n (opened n) in
+      record {
+        made = steps-made kind table lines;
+        run = steps-seen kind table lines;
+        holds = rw steps-seen
+            (rw open-left at (demand3-on-tables kind n table open-taken (callsOf lines) (calls-held lines)));
+      }
 
   pub script-run : (input first : List ℕ) (lines : List (List ℕ)) → linesOf input ≡ first ∷ lines → firstOf first ≡ some n
-      → ScriptRun kind n lines (scriptOutput kind input)
-  unfolding scriptOutput linesPrinted boardPrinted
+      → ScriptRun kind n lines (scriptRun kind input) (scriptOutput kind input)
+  unfolding scriptOutput scriptRun linesRun boardRun printedRun
   script-run input first lines split named = record {
-    steps = stepsPrinted kind 1 (tableWords n (opened n)) (take mostSteps lines);
-    prints = rw (split, named, size);
+    steps = stepsFrom kind (tableWords n (opened n)) (take mostSteps lines);
+    ran = rw (split, named, size);
     run = steps-run (take mostSteps lines);
+    prints = rw (split, named, size);
   }

@@ -1,18 +1,24 @@
--- A script's steps as a run of calls: which calls its lines make, and what each line prints of what was seen at its call.
-use Prim.Native.Nat.{ℕ, _+_}
+-- A script's steps as a run of calls: which calls its lines make, and that what is seen at the steps is the run of these calls.
+use Prim.Native.Nat.{ℕ}
 use mathlib.Core.Path.{_≡_}
-use mathlib.Core.Bool.{cond}
-use mathlib.Core.List.{List, [], _∷_, _++_}
+use mathlib.Core.List.{List, [], _∷_, _++_, map}
 use mathlib.Core.Option.{Option, none, some}
-use lib.Dec.{eqb}
 use lib.ListN.{take}
 use Rattle.model.specs.Kinds.{Kind}
 use Rattle.model.specs.Board.{opened}
-use Rattle.model.specs.Runs.{Call, Seen}
+use Rattle.model.specs.Runs.{Call, Seen, Step, step}
 use Rattle.model.specs.Demand3.{Demand3}
 use Rattle.model.specs.Table.{tableWords}
 use Rattle.model.specs.TableCalls.{tableRun, tableBoards}
-use Rattle.model.specs.Script.{callOf, caller, lastWord, lineOf, printedLine, boardLine, mostSteps}
+use Rattle.model.specs.Script.{callOf, lineOf, mostSteps, Run, ran, boardLine, printedSteps}
+
+-- the call that a line makes, and that of a step: none where the line is malformed
+abbrev pub lineCall : List ℕ → Option Call
+lineCall line = callOf (lineOf line)
+
+unfoldable pub stepCall : Option Step → Option Call
+stepCall none = none
+stepCall (some (step call s)) = some call
 
 -- the calls of the lines that make one, in order
 unfoldable pub withCall : Option Call → List Call → List Call
@@ -21,37 +27,28 @@ withCall (some call) calls = call ∷ calls
 
 unfoldable pub callsOf : List (List ℕ) → List Call
 callsOf [] = []
-callsOf (line ∷ lines) = withCall (callOf (lineOf line)) (callsOf lines)
+callsOf (line ∷ lines) = withCall (lineCall line) (callsOf lines)
 
--- what a line prints, of the things seen from its call on: a malformed line makes no call, and prints 17
-unfoldable pub seenPrinted : ℕ → Option Call → List Seen → List ℕ
-seenPrinted step none seen = printedLine step 17 none none
-seenPrinted step (some call) [] = []
-seenPrinted step (some call) (s ∷ seen) =
-    printedLine step (s .answer) (cond (eqb (s .answer) 4) none (some (s .phases (caller call)))) (lastWord (s .returned))
+-- what was seen at the steps that made a call, in order
+unfoldable pub withSeen : Option Step → List Seen → List Seen
+withSeen none seen = seen
+withSeen (some (step call s)) seen = s ∷ seen
 
--- the things seen behind a line
-unfoldable pub seenBehind : Option Call → List Seen → List Seen
-seenBehind none seen = seen
-seenBehind (some call) [] = []
-seenBehind (some call) (s ∷ seen) = seen
+unfoldable pub seenOf : List (Option Step) → List Seen
+seenOf [] = []
+seenOf (s ∷ steps) = withSeen s (seenOf steps)
 
--- the lines one by one, beside the things seen at their calls
-unfoldable pub linesSeen : ℕ → List (List ℕ) → List Seen → List ℕ
-linesSeen step [] seen = []
-linesSeen step (line ∷ lines) seen =
-    let call = callOf (lineOf line) in
-    seenPrinted step call seen ++ linesSeen (step + 1) lines (seenBehind call seen)
+-- The claim about the steps of a script's lines: the k-th step makes the k-th line's call, what is seen at the steps is the run of these calls
+-- on the opened table, and of that run demand 3 holds.
+pub record StepsRun (kind : Kind) (n : ℕ) (lines : List (List ℕ)) (steps : List (Option Step)) : Type 0 where
+  pub made : map stepCall steps ≡ map lineCall lines
+  pub run : seenOf steps ≡ tableRun kind (tableWords n (opened n)) (callsOf lines)
+  pub holds : Demand3 kind n (callsOf lines) (tableBoards kind (tableWords n (opened n)) (callsOf lines)) (seenOf steps)
 
--- The claim about the steps of a script: they print what is seen in the run of their calls on the opened table, and of that run demand 3 holds.
-pub record StepsRun (kind : Kind) (n : ℕ) (lines : List (List ℕ)) (printed : List ℕ) : Type 0 where
-  pub seen : List Seen
-  pub run : seen ≡ tableRun kind (tableWords n (opened n)) (callsOf lines)
-  pub prints : printed ≡ linesSeen 1 lines seen
-  pub holds : Demand3 kind n (callsOf lines) (tableBoards kind (tableWords n (opened n)) (callsOf lines)) seen
-
--- The claim about a whole script whose first line is good: `board N`, and then its steps, of which there are 1,000,000 at most.
-pub record ScriptRun (kind : Kind) (n : ℕ) (lines : List (List ℕ)) (output : List ℕ) : Type 0 where
-  pub steps : List ℕ
-  pub prints : output ≡ boardLine n ++ steps
+-- The claim about a whole script whose first line names n: its steps, of which there are 1,000,000 at most, are such a run, and what is printed
+-- is `board N` and these steps.
+pub record ScriptRun (kind : Kind) (n : ℕ) (lines : List (List ℕ)) (whole : Run) (output : List ℕ) : Type 0 where
+  pub steps : List (Option Step)
+  pub ran : whole ≡ ran n steps
   pub run : StepsRun kind n (take mostSteps lines) steps
+  pub prints : output ≡ boardLine n ++ printedSteps 1 steps

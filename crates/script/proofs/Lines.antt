@@ -1,4 +1,4 @@
--- Laws of whole lines: each line's text reads back as it, no other text does, and what is longer than 27 bytes is malformed.
+-- Laws of whole lines: each line's text reads back as it, no other text does, and what is longer than `longestLine` is malformed.
 use Prim.Native.Nat.{ℕ, _+_, _-_, _*_, _≤_, _<_}
 use native.Mathlib.Omega.{arith}
 use mathlib.Core.Path.{_≡_, refl, sym, ap, _∙_}
@@ -12,6 +12,7 @@ use lib.Seq.{take-all}
 use borrow.Author.Tests.{eq-eqb, ne-eqb, eqb-true, ltb-true, ltb-false}
 use Rattle.lists.proofs.Functions.{on, first, second}
 use Rattle.model.specs.Script.{lineFeed, space, isDigit, membersWord, writeWord, readWord, deliverWord, crashWord, startsWith, before, beyond, digits, digitsRead, numberOf, Line, writes, reads, delivers, crashes, malformed, oneNumber, twoNumbers, single, double, lineOf, textOf, Bounded, firstOf, withByte, linesOf}
+use Rattle.script.specs.Meaning.{longestLine}
 use Rattle.script.proofs.Reading.{digit-low}
 use Rattle.script.proofs.Digits.{digits-read, length-some, length-ten, number-digits, number-only}
 
@@ -137,7 +138,7 @@ line-known l = on (startsWith writeWord l)
 
 -- Long texts. "The longest line is `write 4294967295 4294967295`."
 
-text-short : (line : Line) → Bounded line → length (textOf line) ≤ 27
+text-short : (line : Line) → Bounded line → length (textOf line) ≤ longestLine
 unfolding textOf
 text-short (writes m v) h = omega (arith, length-append (digits m) (space ∷ digits v), length-ten m (h .0), length-ten v (h .1))
 text-short (reads m r) h = omega (arith, length-append (digits m) (space ∷ digits r), length-ten m (h .0), length-ten r (h .1))
@@ -145,10 +146,10 @@ text-short (delivers m) h = omega (arith, length-ten m h)
 text-short (crashes m) h = omega (arith, length-ten m h)
 text-short malformed h = absurd h
 
-pub line-long : (l : List ℕ) → 27 < length l → lineOf l ≡ malformed
+pub line-long : (l : List ℕ) → longestLine < length l → lineOf l ≡ malformed
 line-long l h = ⊎-elim
     (λ e. e)
-    (λ k. let s : length l ≤ 27 = (rw (k .1) at (text-short (lineOf l) (k .0))) in absurd (omega arith))
+    (λ k. let s : length l ≤ longestLine = (rw (k .1) at (text-short (lineOf l) (k .0))) in absurd (omega arith))
     (line-known l)
 
 -- The first line.
@@ -164,7 +165,7 @@ members-only l n e = on (startsWith membersWord l)
     (ap (λ m. membersWord ++ m) (sym (s .0)) ∙ starts-split membersWord l p, s .1))
     (λ p. let z : _≡_ {A = ℕ} 0 1 = (cc (rw p at e)) in absurd (omega arith))
 
-pub members-long : (l : List ℕ) → 27 < length l → firstOf l ≡ none
+pub members-long : (l : List ℕ) → longestLine < length l → firstOf l ≡ none
 members-long l h = go (firstOf l) refl
   where
     go : (o : Option ℕ) → firstOf l ≡ o → firstOf l ≡ none
@@ -173,19 +174,19 @@ members-long l h = go (firstOf l) refl
         let s = members-only l n e in
         absurd (omega (arith, ap length (s .0), length-ten n (s .1)))
 
--- A program need keep no more than the first 28 bytes of a line.
+-- A program need keep no more of a line than one byte beyond the longest.
 
-module _ {A : Type 0} (f : List ℕ → A) (d : A) (long : (l : List ℕ) → 27 < length l → f l ≡ d) where
-  pub kept : (l : List ℕ) → f (take 28 l) ≡ f l
-  kept l = on (ltb 27 (length l))
-      (λ p. let h : 27 < length l = ltb-true 27 (length l) p in
-      long (take 28 l) (simp length-take (omega arith)) ∙ sym (long l h))
-      (λ p. ap f (take-all 28 l (let h : length l ≤ 27 = ltb-false 27 (length l) p in omega arith)))
+module _ {A : Type 0} (f : List ℕ → A) (d : A) (long : (l : List ℕ) → longestLine < length l → f l ≡ d) where
+  pub kept : (l : List ℕ) → f (take (longestLine + 1) l) ≡ f l
+  kept l = on (ltb longestLine (length l))
+      (λ p. let h : longestLine < length l = ltb-true longestLine (length l) p in
+      long (take (longestLine + 1) l) (simp length-take (omega arith)) ∙ sym (long l h))
+      (λ p. ap f (take-all (longestLine + 1) l (let h : length l ≤ longestLine = ltb-false longestLine (length l) p in omega arith)))
 
-pub line-kept : (l : List ℕ) → lineOf (take 28 l) ≡ lineOf l
+pub line-kept : (l : List ℕ) → lineOf (take (longestLine + 1) l) ≡ lineOf l
 line-kept = kept lineOf malformed line-long
 
-pub members-kept : (l : List ℕ) → firstOf (take 28 l) ≡ firstOf l
+pub members-kept : (l : List ℕ) → firstOf (take (longestLine + 1) l) ≡ firstOf l
 members-kept = kept firstOf none members-long
 
 -- The lines of a script one by one: the first ends before the first line feed.

@@ -14,7 +14,7 @@ use Rattle.lists.specs.Parts.{words, replaced}
 use Rattle.lists.proofs.Functions.{on, by-place, put-at, put-off, pasted-in, pasted-below, pasted-above, pasted-same, pasted-more, pasted-join}
 use Rattle.lists.proofs.Parts.{words-set, length-replaced, words-replaced, replaced-by}
 use Rattle.model.specs.Script.{dash, digits, orDash, field, printedLine, boardLine, refusedLine}
-use Rattle.script.specs.Meaning.{given, Printed}
+use Rattle.script.specs.Meaning.{longestPrinted, given, Printed}
 use Rattle.script.proofs.Digits.{length-some, length-ten}
 
 -- one byte
@@ -119,7 +119,7 @@ dash-short true x h = length-ten x h
 
 pub line-short : (step answer phase word : ℕ) (phased returned : Bool)
     → step < 4294967296 → answer < 4294967296 → phase < 4294967296 → word < 4294967296
-    → length (printedLine step answer (given phased phase) (given returned word)) ≤ 44
+    → length (printedLine step answer (given phased phase) (given returned word)) ≤ longestPrinted
 unfolding printedLine
 line-short step answer phase word phased returned a b c d =
     simp length-append

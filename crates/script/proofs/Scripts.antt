@@ -16,7 +16,8 @@ use Rattle.model.specs.TableCalls.{openNumber, openWords, boardIn, tableAnswer,
 use Rattle.lists.specs.Functions.{put, pasted, from, inside, within, numbered, each}
 use Rattle.lists.specs.Parts.{tabulate}
 use Rattle.lists.specs.Pieces.{place, pieces, laid}
-use Rattle.model.specs.Script.{isDigit, startsWith, before, beyond, digitsWithin, digits, digitsRead, limited, leadingZero, numberOf, oneNumber, twoNumbers, lineOf, textOf, firstOf, orDash, printedLine, boardLine, refusedLine, callOf, caller, lastWord, stepped, stepLine, withByte, linesOf, stepsPrinted, boardPrinted, linesPrinted, scriptOutput}
+use Rattle.model.specs.Script.{isDigit, startsWith, before, beyond, digitsWithin, digits, digitsRead, limited, leadingZero, numberOf, oneNumber, twoNumbers, lineOf, textOf, firstOf, callOf, caller, stepped, stepLine, stepsFrom, withByte, linesOf}
+use Rattle.model.specs.Script.{boardRun, linesRun, scriptRun, orDash, printedLine, lastWord, printedStep, printedSteps, boardLine, refusedLine, printedRun, scriptOutput}
 use Rattle.script.specs.Examples.{Holds, examples}
 
 pub every-example : Every Holds examples
@@ -32,7 +33,7 @@ unfolding examples zeroRow zeroMatrix below matrixBelow comparable larger withCo
     outcomeNumber outcomeWords outcomeReturns memberCrashNumber memberCrashWords hostNumber submitWords submitNewest submitStored
     commitNumber commitOutcome commitWords openNumber openWords boardIn tableAnswer tableAfter tableReturns phaseWords tableSeen
     tableRun put pasted from inside within numbered each tabulate place pieces laid isDigit startsWith before beyond digitsWithin
-    digits digitsRead limited leadingZero numberOf oneNumber twoNumbers lineOf textOf firstOf orDash printedLine
-    boardLine refusedLine callOf caller lastWord stepped stepLine withByte linesOf stepsPrinted boardPrinted linesPrinted
+    digits digitsRead limited leadingZero numberOf oneNumber twoNumbers lineOf textOf firstOf callOf caller stepped stepLine stepsFrom
+    withByte linesOf boardRun linesRun scriptRun orDash printedLine lastWord printedStep printedSteps boardLine refusedLine printedRun
     scriptOutput
 every-example = (refl, (refl, (refl, (refl, (refl, (refl, (refl, (refl, (refl, (refl, (refl, (refl, (refl, tt)))))))))))))

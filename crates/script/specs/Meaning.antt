@@ -32,6 +32,14 @@ heldTwo kind none y = heldLine malformed
 heldTwo kind (some x) none = heldLine malformed
 heldTwo kind (some x) (some y) = record { kind = kind; member = x; argument = y }
 
+-- no line of a good form is longer (`write M V`), and no line that is printed (four numbers, and a byte behind each)
+
+abbrev pub longestLine : ℕ
+longestLine = 27
+
+abbrev pub longestPrinted : ℕ
+longestPrinted = 44
+
 -- x where it is given
 abbrev pub given : Bool → ℕ → Option ℕ
 given has x = cond has (some x) none

@@ -19,30 +19,37 @@ impl Number {
     };
 }
 
-// A line that was read: MALFORMED, WRITE member value, READ member slot, DELIVER member or CRASH member. What a line does not have is 0.
+// A line that was read: its kind, its member, and a write's value or a read's slot. What a line does not have is 0.
 pub struct Line {
     pub kind: u32,
     pub member: u32,
     pub argument: u32,
 }
 
+// The kinds of lines: what a line asks for. (The type of an operation, read or write, is another number.)
 impl Line {
+    pub const MALFORMED: u32 = 0;
+
+    pub const WRITE: u32 = 1;
+
+    pub const READ: u32 = 2;
+
+    pub const DELIVER: u32 = 3;
+
+    pub const CRASH: u32 = 4;
+
     pub const NONE: Line = Line {
-        kind: MALFORMED,
+        kind: Line::MALFORMED,
         member: 0,
         argument: 0,
     };
 }
 
-pub const MALFORMED: u32 = 0;
+// No line of a good form is longer.
+pub const LONGEST_LINE: usize = 27;
 
-pub const WRITE: u32 = 1;
-
-pub const READ: u32 = 2;
-
-pub const DELIVER: u32 = 3;
-
-pub const CRASH: u32 = 4;
+// No line that is printed is longer.
+pub const LONGEST_PRINTED: usize = 44;
 
 // The number that the bytes write: digits without leading zeros, below 2^32.
 pub fn parse_number(t: &[u8]) -> Number
@@ -120,16 +127,16 @@ pub fn parse_line(t: &[u8]) -> Line
     ensures { λ r. ⌜ r ≡ heldLine (lineOf (now (t .entry))) ⌝ }
 {
     if scan::starts_with(t, b"write ") {
-        return double(WRITE, &t[6..]);
+        return double(Line::WRITE, &t[6..]);
     }
     if scan::starts_with(t, b"read ") {
-        return double(READ, &t[5..]);
+        return double(Line::READ, &t[5..]);
     }
     if scan::starts_with(t, b"deliver ") {
-        return single(DELIVER, &t[8..]);
+        return single(Line::DELIVER, &t[8..]);
     }
     if scan::starts_with(t, b"crash ") {
-        return single(CRASH, &t[6..]);
+        return single(Line::CRASH, &t[6..]);
     }
     Line::NONE
 }

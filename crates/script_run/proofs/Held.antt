@@ -1,9 +1,9 @@
--- Laws of how the code holds lines, calls and texts. Assumes nothing.
+-- Laws of how the code holds lines, calls, steps, events and texts: each by the cases of its definition.
 use Prim.Native.Nat.{ℕ, _+_, _≤_, _<_}
 use native.Mathlib.Omega.{arith}
 use mathlib.Core.Path.{_≡_, refl, sym, ap, _∙_}
-use mathlib.Core.Bool.{true, false, cond, not}
-use mathlib.Core.List.{List, [], _∷_, _++_}
+use mathlib.Core.Bool.{true, false, cond, not, _||_}
+use mathlib.Core.List.{List, [], _∷_, _++_, append-nil}
 use mathlib.Core.Option.{Option, none, some}
 use lib.Dec.{eqb}
 use lib.ListN.{length, take, drop, replicate, take-append-drop}
@@ -17,10 +17,11 @@ use Rattle.model.specs.Kinds.{concur}
 use Rattle.model.specs.Records.{Value, zeroValue}
 use Rattle.model.specs.RecordWords.{valueOf}
 use Rattle.model.specs.Board.{Board, opened}
-use Rattle.model.specs.Runs.{Call, begin, deliver, crash, done, doneReturns}
+use Rattle.model.specs.Runs.{Call, begin, deliver, crash, Step, step, done, doneReturns}
 use Rattle.model.specs.Table.{tableSize, tableWords}
-use Rattle.model.specs.TableCalls.{openNumber, openWords, boardIn, tableAnswer, tableAfter, tableReturns, phaseWords}
-use Rattle.model.specs.Script.{Line, writes, reads, delivers, crashes, malformed, lineOf, callOf, caller, lastWord, printedLine, stepped, stepLine}
+use Rattle.model.specs.TableCalls.{openNumber, openWords, boardIn, tableAnswer, tableAfter, tableReturns, phaseWords, tableSeen}
+use Rattle.model.specs.Script.{Line, writes, reads, delivers, crashes, malformed, lineOf, callOf, caller, stepped, stepLine}
+use Rattle.model.specs.Script.{printedLine, lastWord, printedStep, boardLine, refusedLine}
 use Rattle.laws.proofs.Records.{valueOf-same}
 use Rattle.laws.proofs.Tables.{length-table, table-zero}
 use Rattle.runs.proofs.Words.{zero-held, last-held}
@@ -28,7 +29,10 @@ use Rattle.member.specs.declared.Outcome.{Outcome}
 use Rattle.member.specs.Results.{returnedIn}
 use Rattle.script.specs.declared.Line.{Line as LineStruct}
 use Rattle.script.specs.Meaning.{heldLine, given, Printed}
-use Rattle.script_run.specs.Meaning.{Whole, callFor, Wrote}
+use Rattle.script_run.specs.Feeding.{Event, printedEvent, printedEvents}
+use Rattle.script_run.specs.Meaning.{callFor, Shows, StepHeld, eventsOf, EventsHeld, Whole, Wrote}
+use Rattle.script_run.specs.declared.Done.{Done}
+use Rattle.script_run.specs.declared.Event.{Event as EventStruct}
 
 -- Lines.
 
@@ -68,11 +72,7 @@ pub value-zero : valueOf (words (replicate 8 0)) ≡ zeroValue
 unfolding zeroValue
 value-zero = ap valueOf (words-zeros 8) ∙ zero-held
 
-last-word : (r : Outcome) → lastWord (returnedIn r) ≡ given (r .returned) (words (r .value) 7)
-unfolding lastWord returnedIn valueOf numbered inside
-last-word r = on (r .returned) (λ p. rw p) (λ p. rw p)
-
-nothing-returned : (r : Outcome) → r .returned ≡ false → returnedIn r ≡ none
+pub nothing-returned : (r : Outcome) → r .returned ≡ false → returnedIn r ≡ none
 unfolding returnedIn
 nothing-returned r p = rw p
 
@@ -115,54 +115,85 @@ call-plain l call made e h r number after p a t = rw e
 
 -- A step, by what its call answers.
 
-pub step-malformed : (step : ℕ) (table line : List ℕ) (read : LineStruct) → read ≡ heldLine (lineOf line) → read .kind ≡ 0
-    → stepLine concur step table line ≡ record { table = table; printed = printedLine step 17 none none }
-unfolding stepLine stepped
-step-malformed step table line read e k = rw (no-call (lineOf line) (ap (λ r. r .kind) (sym e) ∙ k))
+module _ (table line : List ℕ) (read : LineStruct) (e : read ≡ heldLine (lineOf line)) where
+  pub step-malformed : read .kind ≡ 0 → stepLine concur table line ≡ record { table = table; happened = none }
+  unfolding stepLine stepped
+  step-malformed k = rw (no-call (lineOf line) (ap (λ r. r .kind) (sym e) ∙ k))
 
-phase-given : (number phase : ℕ) → given (not (eqb number 4)) phase ≡ cond (eqb number 4) none (some phase)
-phase-given number phase = on (eqb number 4) (λ p. rw p) (λ p. rw p)
+  module _ (k : read .kind ≡ 0 → ⊥) where
+    made : Call
+    made = callFor (read .kind) (read .member) (read .argument)
 
-step-called : (step : ℕ) (table line : List ℕ) (call : Call) → callOf (lineOf line) ≡ some call
-    → stepLine concur step table line ≡ record {
-      table = tableAfter concur table call;
-      printed = printedLine step (tableAnswer concur table call)
-          (cond (eqb (tableAnswer concur table call) 4) none (some (phaseWords (tableAfter concur table call) (caller call))))
-          (lastWord (tableReturns concur table call));
+    line-made : callOf (lineOf line) ≡ some made
+    unfolding made
+    line-made =
+        some-call (lineOf line) (λ h. k (ap (λ r. r .kind) e ∙ h)) ∙ ap (λ r. some (callFor (r .kind) (r .member) (r .argument))) (sym e)
+
+    pub step-made : stepLine concur table line ≡ record {
+      table = tableAfter concur table (callFor (read .kind) (read .member) (read .argument));
+      happened = some (step (callFor (read .kind) (read .member) (read .argument)) (tableSeen concur table (callFor (read .kind) (read .member) (read .argument))));
     }
-unfolding stepLine stepped
-step-called step table line call e = rw e
+    unfolding stepLine stepped made
+    step-made = rw line-made
 
-module _ (step : ℕ) (table line : List ℕ) (read : LineStruct) (e : read ≡ heldLine (lineOf line)) (k : read .kind ≡ 0 → ⊥) where
-  made : Call
-  made = callFor (read .kind) (read .member) (read .argument)
+-- What was seen at the call of a line, as it is held.
+pub call-shown : (table : List ℕ) (read : LineStruct) (call : Call) (outcome : Outcome) (after : List ℕ) (phase : ℕ)
+    → 0 < read .kind → call ≡ callFor (read .kind) (read .member) (read .argument)
+    → outcome .number ≡ tableAnswer concur table call → returnedIn outcome ≡ tableReturns concur table call
+    → after ≡ tableAfter concur table call → phase ≡ phaseWords after (read .member)
+    → Shows (record { line = read; outcome = outcome; phase = phase }) call (tableSeen concur table call)
+unfolding tableSeen
+call-shown table read call outcome after phase k m a r t p = record {
+  kind = k;
+  made = m;
+  answer = sym a;
+  phase = ap (λ l. phaseWords l (read .member)) (sym t) ∙ sym p;
+  returned = sym r;
+}
 
-  line-made : callOf (lineOf line) ≡ some made
-  unfolding made
-  line-made = some-call (lineOf line) (λ h. k (ap (λ r. r .kind) e ∙ h)) ∙ ap (λ r. some (callFor (r .kind) (r .member) (r .argument))) (sym e)
+-- What is printed of a step that is held.
 
-  pub step-made : (done : Outcome) (after : List ℕ) (phase word : ℕ)
-      → done .number ≡ tableAnswer concur table (callFor (read .kind) (read .member) (read .argument))
-      → returnedIn done ≡ tableReturns concur table (callFor (read .kind) (read .member) (read .argument))
-      → after ≡ tableAfter concur table (callFor (read .kind) (read .member) (read .argument))
-      → phase ≡ phaseWords after (read .member)
-      → word ≡ words (done .value) 7
-      → stepLine concur step table line ≡ record {
-        table = after;
-        printed = printedLine step (done .number) (given (not (eqb (done .number) 4)) phase) (given (done .returned) word);
-      }
-  unfolding made
-  step-made done after phase word a r t p w =
-      step-called step table line made line-made
-      ∙ (λ i. record {
-        table = sym t i;
-        printed = printedLine step (sym a i)
-            ((ap (λ x. cond (eqb x 4) none (some (phaseWords (tableAfter concur table made) (caller made)))) (sym a)
-            ∙ ap (λ x. cond (eqb (done .number) 4) none (some x))
-            (ap (λ l. phaseWords l (caller made)) (sym t) ∙ ap (phaseWords after) (caller-for (read .kind) (read .member) (read .argument)) ∙ sym p)
-            ∙ sym (phase-given (done .number) phase)) i)
-            ((ap lastWord (sym r) ∙ last-word done ∙ ap (given (done .returned)) (sym w)) i);
-      })
+last-word : (r : Outcome) → lastWord (returnedIn r) ≡ given (r .returned) (words (r .value) 7)
+unfolding lastWord returnedIn valueOf numbered inside
+last-word r = on (r .returned) (λ p. rw p) (λ p. rw p)
+
+phase-given : (kind number phase : ℕ) → 0 < kind → given (not (eqb kind 0 || eqb number 4)) phase ≡ cond (eqb number 4) none (some phase)
+phase-given kind number phase k = rw (ne-eqb kind 0 (omega arith)) (on (eqb number 4) (λ p. rw p) (λ p. rw p))
+
+abbrev shownLine : ℕ → Done → List ℕ
+shownLine k d =
+    printedLine k (d .outcome .number) (given (not (eqb (d .line .kind) 0 || eqb (d .outcome .number) 4)) (d .phase))
+    (given (d .outcome .returned) (words (d .outcome .value) 7))
+
+pub step-shown : (k : ℕ) (d : Done) (s : Option Step) → StepHeld d s → printedStep k s ≡ shownLine k d
+unfolding printedStep lastWord
+step-shown k d none h =
+    let word : given (d .outcome .returned) (words (d .outcome .value) 7) ≡ none = sym (last-word (d .outcome)) ∙ ap lastWord (h .1 .1) in
+    rw (h .0, h .1 .0, word)
+step-shown k d (some (step call s)) h =
+    let who : caller call ≡ d .line .member = ap caller (h .made) ∙ caller-for (d .line .kind) (d .line .member) (d .line .argument) in
+    rw (h .answer, who, h .phase, h .returned, last-word (d .outcome))
+    (ap (λ o. printedLine k (d .outcome .number) o (given (d .outcome .returned) (words (d .outcome .value) 7)))
+    (sym (phase-given (d .line .kind) (d .outcome .number) (d .phase) (h .kind))))
+
+-- What is printed of the events that are held.
+
+module _ (e : EventStruct) (l : List Event) (h : EventsHeld e l) where
+  pub nothing-shown : e .kind ≡ 0 → printedEvents l ≡ []
+  unfolding eventsOf printedEvents
+  nothing-shown k = rw (h .events, k)
+
+  pub refused-shown : e .kind ≡ 1 → printedEvents l ≡ refusedLine (e .number)
+  unfolding eventsOf printedEvents printedEvent
+  refused-shown k = rw (h .events, k, append-nil)
+
+  pub opened-shown : e .kind ≡ 2 → printedEvents l ≡ boardLine (e .number)
+  unfolding eventsOf printedEvents printedEvent
+  opened-shown k = rw (h .events, k, append-nil)
+
+  pub stepped-shown : (e .kind ≡ 0 → ⊥) → (e .kind ≡ 1 → ⊥) → (e .kind ≡ 2 → ⊥) → printedEvents l ≡ printedStep (e .number) (h .happened)
+  unfolding eventsOf printedEvents printedEvent
+  stepped-shown a b c = rw (h .events, ne-eqb (e .kind) 0 a, ne-eqb (e .kind) 1 b, ne-eqb (e .kind) 2 c, append-nil)
 
 -- Tables.
 
@@ -179,14 +210,14 @@ whole-after l call w = on (eqb (tableAnswer concur l call) 0)
     (λ p. rw p (whole-words (words l 0) (done (words l 0) (boardIn l) call) (w .least) (w .most)))
     (λ p. rw p w)
 
-whole-stepped : (step : ℕ) (l : List ℕ) (call : Option Call) → Whole l → Whole (stepped concur step l call .table)
+whole-stepped : (l : List ℕ) (call : Option Call) → Whole l → Whole (stepped concur l call .table)
 unfolding stepped
-whole-stepped step l none w = w
-whole-stepped step l (some call) w = whole-after l call w
+whole-stepped l none w = w
+whole-stepped l (some call) w = whole-after l call w
 
-pub step-whole : (step : ℕ) (l line : List ℕ) → Whole l → Whole (stepLine concur step l line .table)
+pub step-whole : (l line : List ℕ) → Whole l → Whole (stepLine concur l line .table)
 unfolding stepLine
-step-whole step l line w = whole-stepped step l (callOf (lineOf line)) w
+step-whole l line w = whole-stepped l (callOf (lineOf line)) w
 
 pub opened-words : (n : ℕ) (l : List ℕ) → inside 12 n ≡ true → length l ≡ tableSize n → openWords concur n l ≡ tableWords n (opened n)
 unfolding openWords openNumber

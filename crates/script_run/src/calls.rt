@@ -10,15 +10,14 @@ use board::begin;
 use board::crash;
 use board::deliver;
 use member::Outcome;
+use rules::READ;
+use rules::WRITE;
 use rules::is_numbered;
+use script::Line;
 use tables::steps::phase;
 
-const READ: u32 = 1;
-
-const WRITE: u32 = 2;
-
 // A call that returns no value.
-fn plain(number: u32) -> Outcome
+pub fn plain(number: u32) -> Outcome
     ensures { λ r. ⌜ (r .number ≡ number) × (r .returned ≡ false) ⌝ }
 {
     Outcome {
@@ -34,14 +33,14 @@ pub fn make_call(table: &mut [u32], kind: u32, member: u32, argument: u32) -> Ou
     ensures { λ r. ⌜ returnedIn r ≡ tableReturns concur (now (table .entry)) (callFor kind member argument) ⌝ }
     ensures { λ _. ⌜ now (table .exit) ≡ tableAfter concur (now (table .entry)) (callFor kind member argument) ⌝ }
 {
-    if kind == script::WRITE {
+    if kind == Line::WRITE {
         let value = [0, 0, 0, 0, 0, 0, 0, argument];
         return plain(begin(table, member, member, WRITE, value));
     }
-    if kind == script::READ {
+    if kind == Line::READ {
         return plain(begin(table, member, argument, READ, [0; 8]));
     }
-    if kind == script::DELIVER {
+    if kind == Line::DELIVER {
         return deliver(table, member);
     }
     plain(crash(table, member))
@@ -57,11 +56,4 @@ pub fn phase_of(table: &[u32], member: u32) -> u32
         return phase(table, n, member);
     }
     0
-}
-
-// The last word of a value.
-pub fn last_word(value: [u32; 8]) -> u32
-    ensures { λ r. ⌜ r ≡ words value 7 ⌝ }
-{
-    value[7]
 }

@@ -1,58 +1,65 @@
 // The first line of a script: it opens the board, or the script is over.
 ghost use mathlib.Core.Path.{_≡_};
-ghost use Prim.Native.Nat.{_+_, _≤_};
-ghost use lib.ListN.{length, take};
+ghost use lib.ListN.{take};
+ghost use mathlib.Core.List.{[], _∷_};
 ghost use Rattle.model.specs.Kinds.{concur};
-ghost use Rattle.model.specs.Script.{firstOf, refusedLine};
-ghost use Rattle.script_run.specs.Feeding.{overStep, firstRun};
-ghost use Rattle.script_run.specs.Meaning.{Ready, Wrote, Ran};
+ghost use Rattle.model.specs.Script.{firstOf};
+ghost use Rattle.script_run.specs.Feeding.{refuses, overStep, firstRun};
+ghost use Rattle.script_run.specs.Meaning.{EventsHeld, Ready, Ran};
+use crate::Ended;
+use crate::Event;
 use crate::MOST_STEPS;
-use crate::Next;
 use crate::Progress;
+use crate::lines::no_step;
 use board::open;
 use rules::is_numbered;
 use script::parse_members;
-use script::steps::print_board;
-use script::steps::print_refused;
 use tables::steps::table_size;
 
 // A first line that a number refuses: nothing follows it.
-fn refuse(p: Progress, number: u32, out: &mut [u8], at: usize) -> Next
-    requires { ⌜ at + 44 ≤ length (now out) ⌝ }
+fn refuse(p: Progress, number: u32) -> Ended
     ensures { λ r. ⌜ r .progress ≡ record { step = overStep; size = p .size; kept = 0 } ⌝ }
-    ensures { λ r. ⌜ Wrote (now (out .entry)) (now (out .exit)) at (refusedLine number) (r .at) ⌝ }
+    ensures { λ r. ⌜ EventsHeld (r .event) (refuses number ∷ []) ⌝ }
 {
-    Next {
+    Ended {
         progress: Progress {
             step: MOST_STEPS + 1,
             size: p.size,
             kept: 0,
         },
-        at: print_refused(out, at, number),
+        event: Event {
+            kind: Event::REFUSED,
+            number,
+            done: no_step(),
+        },
     }
 }
 
-pub fn run_first(table: &mut [u32], kept: &[u8], p: Progress, out: &mut [u8], at: usize) -> Next
-    requires { ⌜ (Ready p (now table) (now kept)) × (at + 44 ≤ length (now out)) ⌝ }
-    ensures { λ r. ⌜ Ran (firstRun concur (take (p .size) (now (table .entry))) (firstOf (take (p .kept) (now (kept .entry))))) r (now (table .exit)) (now (kept .entry)) (now (out .entry)) (now (out .exit)) at ⌝ }
+pub fn run_first(table: &mut [u32], kept: &[u8], p: Progress) -> Ended
+    requires { ⌜ Ready p (now table) (now kept) ⌝ }
+    ensures { λ r. ⌜ Ran (firstRun concur (take (p .size) (now (table .entry))) (firstOf (take (p .kept) (now (kept .entry))))) r (now (table .exit)) (now (kept .entry)) ⌝ }
 {
     let count = p.kept;
     let members = parse_members(&kept[..count]);
     if !members.ok {
-        return refuse(p, 17, out, at);
+        return refuse(p, 17);
     }
     let n = members.value;
     if !is_numbered(n, 12) {
-        return refuse(p, 1, out, at);
+        return refuse(p, 1);
     }
     let size = table_size(n as usize);
     open(&mut table[..size], n);
-    Next {
+    Ended {
         progress: Progress {
             step: 1,
             size,
             kept: 0,
         },
-        at: print_board(out, at, n),
+        event: Event {
+            kind: Event::OPENED,
+            number: n,
+            done: no_step(),
+        },
     }
 }

@@ -1,7 +1,16 @@
-// The board program's lines, run on a table: one line, and a script that comes in pieces.
+// The board program's lines, run on a table: what each did by value, and a script that comes in pieces. What is printed is made of that.
+ghost use mathlib.Core.List.{List, [], _∷_};
+ghost use mathlib.Core.Path.{_≡_};
+ghost use Prim.Native.Nat.{ℕ};
+ghost use Rattle.script_run.specs.Feeding.{over};
+ghost use Rattle.script_run.specs.Meaning.{stateOf};
+use member::Outcome;
+use script::LONGEST_LINE;
+use script::Line;
 
 mod calls;
 mod first;
+mod lines;
 pub mod steps;
 
 // How far a script has come: the number of the next line, the size of the table once it is opened, and how many bytes of the line are kept.
@@ -24,16 +33,55 @@ impl Progress {
         size: 0,
         kept: 0,
     };
+
+    // Is the script over, so that nothing more of it is looked at?
+    pub fn is_over(self) -> bool
+        ensures { λ r. ⌜ ((table kept : List ℕ) → r ≡ over (stateOf self table kept)) ⌝ }
+    {
+        MOST_STEPS < self.step
+    }
 }
 
-// How far a script has come, and the place behind what was printed.
-pub struct Next {
+// What a line that is a step did: the line, its answer and the value returned, and the member's phase after it. A malformed line is answered 17.
+pub struct Done {
+    pub line: Line,
+    pub outcome: Outcome,
+    pub phase: u32,
+}
+
+// What happened where a line ended: the first was REFUSED with a number, or the board was OPENED with that many members; the line of that
+// number was a STEP, and did what `done` says. Or no line ended: NOTHING.
+pub struct Event {
+    pub kind: u32,
+    pub number: u32,
+    pub done: Done,
+}
+
+impl Event {
+    pub const NOTHING: u32 = 0;
+
+    pub const REFUSED: u32 = 1;
+
+    pub const OPENED: u32 = 2;
+
+    pub const STEP: u32 = 3;
+}
+
+// A line that was ended: how far the script has come, and what happened.
+pub struct Ended {
     pub progress: Progress,
-    pub at: usize,
+    pub event: Event,
 }
 
-// What feeding some bytes did: how far the script has come, and how many bytes were taken and printed.
+// What feeding some bytes did: how far the script has come, how many bytes were taken, and what happened.
 pub struct Fed {
+    pub progress: Progress,
+    pub taken: usize,
+    pub event: Event,
+}
+
+// The same of bytes whose events were printed: how many bytes were written.
+pub struct Written {
     pub progress: Progress,
     pub taken: usize,
     pub written: usize,
@@ -44,8 +92,4 @@ pub const MOST_STEPS: u32 = 1000000;
 // A table of 12 members.
 pub const MOST_WORDS: usize = 9781;
 
-// No line of a good form is longer than 27 bytes.
-pub const MOST_KEPT: usize = 28;
-
-// No line that is printed is longer.
-pub const LONGEST_PRINTED: usize = 44;
+pub const MOST_KEPT: usize = LONGEST_LINE + 1;

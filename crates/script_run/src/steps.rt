@@ -1,168 +1,185 @@
-// Lines run on a table, and a script fed in pieces, for the program: each function asks for the room that it needs.
+// A script fed in pieces, line by line and by value; and, for the board program, what it prints. Each function asks for the room that it needs.
 ghost use mathlib.Core.Path.{_≡_};
+ghost use mathlib.Core.Bool.{Bool, cond, not, _||_};
+ghost use mathlib.Core.List.{List, []};
+ghost use mathlib.Core.Option.{Option};
 ghost use Prim.Native.Nat.{_+_, _≤_, _<_};
-ghost use mathlib.Core.Bool.{_||_};
-ghost use lib.Dec.{eqb, ltb};
+ghost use lib.Dec.{eqb};
 ghost use lib.ListN.{length, take};
+ghost use Rattle.lists.specs.Parts.{words};
 ghost use Rattle.model.specs.Kinds.{concur};
-ghost use Rattle.model.specs.Script.{stepLine, mostSteps};
-ghost use Rattle.script_run.specs.Feeding.{mostKept, keep, lineRun, byteFed, fed, lastPrinted};
-ghost use Rattle.script_run.specs.Meaning.{Whole, stateOf, Ready, Wrote, Ran, Took};
+ghost use Rattle.model.specs.Runs.{Step};
+ghost use Rattle.model.specs.Script.{printedStep};
+ghost use Rattle.script.specs.Meaning.{longestPrinted};
+ghost use Rattle.script_run.specs.Feeding.{Event as Happened, lastEvents, printedEvents};
+ghost use Rattle.script_run.specs.Meaning.{StepHeld, EventsHeld, stateOf, Ready, Took, Wrote, FedInto};
+use crate::Done;
+use crate::Event;
 use crate::Fed;
-use crate::LONGEST_PRINTED;
-use crate::MOST_KEPT;
-use crate::MOST_STEPS;
-use crate::Next;
 use crate::Progress;
-use crate::calls::last_word;
-use crate::calls::make_call;
-use crate::calls::phase_of;
-use crate::first::run_first;
-use script::MALFORMED;
-use script::parse_line;
+use crate::Written;
+use crate::lines::begun;
+use crate::lines::end_line;
+use crate::lines::keep_byte;
+use crate::lines::no_step;
+use script::LONGEST_PRINTED;
+use script::Line;
+use script::steps::print_board;
 use script::steps::print_line;
+use script::steps::print_refused;
 
-// A line that is a step: what it does to the table, and the line printed.
-pub fn run_line(table: &mut [u32], step: u32, line: &[u8], out: &mut [u8], at: usize) -> usize
-    requires { ⌜ (Whole (now table)) × (at + 44 ≤ length (now out)) ⌝ }
-    ensures { λ _. ⌜ now (table .exit) ≡ stepLine concur step (now (table .entry)) (now (line .entry)) .table ⌝ }
-    ensures { λ r. ⌜ Wrote (now (out .entry)) (now (out .exit)) at (stepLine concur step (now (table .entry)) (now (line .entry)) .printed) r ⌝ }
+// No line ended among the bytes taken.
+fn none_ended(progress: Progress, taken: usize) -> Fed
+    ensures { λ r. ⌜ (r .progress ≡ progress) × ((r .taken ≡ taken) × (EventsHeld (r .event) [])) ⌝ }
 {
-    let read = parse_line(line);
-    let kind = read.kind;
-    if kind == MALFORMED {
-        return print_line(out, at, step, 17, false, 0, false, 0);
+    Fed {
+        progress,
+        taken,
+        event: Event {
+            kind: Event::NOTHING,
+            number: 0,
+            done: no_step(),
+        },
     }
-    let done = make_call(table, kind, read.member, read.argument);
-    let number = done.number;
-    let phase = phase_of(table, read.member);
-    let value = done.value;
+}
+
+// Bytes of a script, up to the end of a line and with its line feed, and what happened at it. Where the script is over, all of them, and nothing.
+pub fn take_line(table: &mut [u32], kept: &mut [u8], p: Progress, bytes: &[u8]) -> Fed
+    requires { ⌜ Ready p (now table) (now kept) ⌝ }
+    ensures { λ r. ⌜ Took p (now (table .entry)) (now (kept .entry)) (now (bytes .entry)) r (now (table .exit)) (now (kept .exit)) ⌝ }
+{
+    if p.is_over() {
+        return none_ended(p, bytes.len());
+    }
+    let mut line = p;
+    let mut taken = 0;
+    while taken < bytes.len() {
+        let b = bytes[taken];
+        taken += 1;
+        if b == b'\n' {
+            let ended = end_line(table, kept, line);
+            let progress = ended.progress;
+            let event = ended.event;
+            return Fed {
+                progress,
+                taken,
+                event,
+            };
+        }
+        line.kept = keep_byte(kept, line.kept, b);
+    }
+    none_ended(line, taken)
+}
+
+// The end of the input: a last line that lacks its line feed.
+pub fn last_line(table: &mut [u32], kept: &[u8], p: Progress) -> Event
+    requires { ⌜ Ready p (now table) (now kept) ⌝ }
+    ensures { λ r. ⌜ EventsHeld r (lastEvents concur (stateOf p (now (table .entry)) (now (kept .entry)))) ⌝ }
+{
+    if p.is_over() {
+        return none_ended(p, 0).event;
+    }
+    if !begun(p.step, p.kept) {
+        return none_ended(p, 0).event;
+    }
+    end_line(table, kept, p).event
+}
+
+// For 4 and 17, the number of a malformed line, no phase is printed.
+fn shows_phase(kind: u32, number: u32) -> bool
+    ensures { λ r. ⌜ r ≡ not (eqb kind 0 || eqb number 4) ⌝ }
+{
+    if kind == Line::MALFORMED {
+        return false;
+    }
+    number != 4
+}
+
+// The last word of a value.
+fn last_word(value: [u32; 8]) -> u32
+    ensures { λ r. ⌜ r ≡ words value 7 ⌝ }
+{
+    value[7]
+}
+
+// The line printed of a step.
+fn print_step(out: &mut [u8], at: usize, step: u32, done: Done) -> usize
+    requires { ⌜ at + longestPrinted ≤ length (now out) ⌝ }
+    ensures { λ r. ⌜ ((s : Option Step) → StepHeld done s → Wrote (now (out .entry)) (now (out .exit)) at (printedStep step s) r) ⌝ }
+{
+    let outcome = done.outcome;
+    let value = outcome.value;
+    let phased = shows_phase(done.line.kind, outcome.number);
     let word = last_word(value);
     print_line(
         out,
         at,
         step,
-        number,
-        number != 4,
-        phase,
-        done.returned,
+        outcome.number,
+        phased,
+        done.phase,
+        outcome.returned,
         word,
     )
 }
 
-// The line that was kept is at its end.
-fn end_line(table: &mut [u32], kept: &[u8], p: Progress, out: &mut [u8], at: usize) -> Next
-    requires { ⌜ (Ready p (now table) (now kept)) × ((p .step ≤ mostSteps) × (at + 44 ≤ length (now out))) ⌝ }
-    ensures { λ r. ⌜ Ran (lineRun concur (stateOf p (now (table .entry)) (now (kept .entry)))) r (now (table .exit)) (now (kept .entry)) (now (out .entry)) (now (out .exit)) at ⌝ }
+// What is printed of an event.
+pub fn print_event(out: &mut [u8], at: usize, event: Event) -> usize
+    requires { ⌜ at + longestPrinted ≤ length (now out) ⌝ }
+    ensures { λ r. ⌜ ((l : List Happened) → EventsHeld event l → Wrote (now (out .entry)) (now (out .exit)) at (printedEvents l) r) ⌝ }
 {
-    let step = p.step;
-    let size = p.size;
-    let count = p.kept;
-    if step == 0 {
-        return run_first(table, kept, p, out, at);
+    let kind = event.kind;
+    if kind == Event::NOTHING {
+        return at;
     }
-    let next = run_line(&mut table[..size], step, &kept[..count], out, at);
-    Next {
-        progress: Progress {
-            step: step + 1,
-            size,
-            kept: 0,
-        },
-        at: next,
+    if kind == Event::REFUSED {
+        return print_refused(out, at, event.number);
     }
-}
-
-// One byte more of a line, of which the first 28 are kept.
-fn keep_byte(kept: &mut [u8], count: usize, b: u8) -> usize
-    requires { ⌜ (length (now kept) ≡ mostKept) × (count ≤ mostKept) ⌝ }
-    ensures { λ r. ⌜ (r ≤ mostKept) × (take r (now (kept .exit)) ≡ keep (take count (now (kept .entry))) b) ⌝ }
-{
-    if count == MOST_KEPT {
-        return count;
+    if kind == Event::OPENED {
+        return print_board(out, at, event.number);
     }
-    kept[count] = b;
-    count + 1
-}
-
-// One byte of a script.
-fn take_byte(
-    table: &mut [u32],
-    kept: &mut [u8],
-    p: Progress,
-    b: u8,
-    out: &mut [u8],
-    at: usize,
-) -> Next
-    requires { ⌜ (Ready p (now table) (now kept)) × (at + 44 ≤ length (now out)) ⌝ }
-    ensures { λ r. ⌜ Ran (byteFed concur (stateOf p (now (table .entry)) (now (kept .entry))) b) r (now (table .exit)) (now (kept .exit)) (now (out .entry)) (now (out .exit)) at ⌝ }
-{
-    if MOST_STEPS < p.step {
-        return Next { progress: p, at };
-    }
-    if b == b'\n' {
-        return end_line(table, kept, p, out, at);
-    }
-    let count = p.kept;
-    Next {
-        progress: Progress {
-            step: p.step,
-            size: p.size,
-            kept: keep_byte(kept, count, b),
-        },
-        at,
-    }
+    print_step(out, at, event.number, event.done)
 }
 
 // Bytes of a script, as many as there is room to print for: what they print stands at the front of the output.
-pub fn feed(table: &mut [u32], kept: &mut [u8], p: Progress, bytes: &[u8], out: &mut [u8]) -> Fed
+pub fn feed(
+    table: &mut [u32],
+    kept: &mut [u8],
+    p: Progress,
+    bytes: &[u8],
+    out: &mut [u8],
+) -> Written
     requires { ⌜ Ready p (now table) (now kept) ⌝ }
-    ensures { λ r. ⌜ Took p (now (table .entry)) (now (kept .entry)) (now (bytes .entry)) r (now (table .exit)) (now (kept .exit)) (now (out .exit)) ⌝ }
-    ensures { λ r. ⌜ (r .taken < length (now (bytes .entry)) → length (now (out .exit)) < r .written + 44) ⌝ }
+    ensures { λ r. ⌜ FedInto p (now (table .entry)) (now (kept .entry)) (now (bytes .entry)) r (now (table .exit)) (now (kept .exit)) (now (out .exit)) ⌝ }
+    ensures { λ r. ⌜ (r .taken < length (now (bytes .entry)) → length (now (out .exit)) < r .written + longestPrinted) ⌝ }
 {
     let mut progress = p;
     let mut taken = 0;
     let mut at = 0;
     while taken < bytes.len() {
         if out.len() - at < LONGEST_PRINTED {
-            return Fed {
+            return Written {
                 progress,
                 taken,
                 written: at,
             };
         }
-        let next = take_byte(table, kept, progress, bytes[taken], out, at);
-        progress = next.progress;
-        at = next.at;
-        taken += 1;
+        let line = take_line(table, kept, progress, &bytes[taken..]);
+        progress = line.progress;
+        taken += line.taken;
+        at = print_event(out, at, line.event);
     }
-    Fed {
+    Written {
         progress,
         taken,
         written: at,
     }
 }
 
-// Is there a line to end? The first is one even if it is empty.
-fn begun(step: u32, count: usize) -> bool
-    ensures { λ r. ⌜ r ≡ (eqb step 0 || ltb 0 count) ⌝ }
-{
-    if step == 0 {
-        return true;
-    }
-    0 < count
-}
-
-// The end of the input: a last line that lacks its line feed.
+// The end of the input, and what it prints.
 pub fn finish(table: &mut [u32], kept: &[u8], p: Progress, out: &mut [u8]) -> usize
-    requires { ⌜ (Ready p (now table) (now kept)) × (44 ≤ length (now out)) ⌝ }
-    ensures { λ r. ⌜ (r ≤ length (now (out .exit))) × (take r (now (out .exit)) ≡ lastPrinted concur (stateOf p (now (table .entry)) (now (kept .entry)))) ⌝ }
+    requires { ⌜ (Ready p (now table) (now kept)) × (longestPrinted ≤ length (now out)) ⌝ }
+    ensures { λ r. ⌜ (r ≤ length (now (out .exit))) × (take r (now (out .exit)) ≡ printedEvents (lastEvents concur (stateOf p (now (table .entry)) (now (kept .entry))))) ⌝ }
 {
-    if MOST_STEPS < p.step {
-        return 0;
-    }
-    if !begun(p.step, p.kept) {
-        return 0;
-    }
-    let next = end_line(table, kept, p, out, 0);
-    next.at
+    print_event(out, 0, last_line(table, kept, p))
 }

@@ -1,75 +1,86 @@
--- `run` meets its contract. Assumes nothing.
+-- `run` meets its contract: each turn leaves a state held and the lengths of what is lent.
 use borrow.Author.Needs.{needs}
-use Prim.Native.Nat.{_≤_}
+use Prim.Native.Nat.{ℕ, _≤_}
 use mathlib.Core.Path.{_≡_, refl, sym, _∙_}
+use mathlib.Core.List.{List}
 use native.Mathlib.Omega.{arith}
 use lib.ListN.{length}
 use lib.Seq.{length-take-le}
+use Rattle.script.specs.Meaning.{longestPrinted}
 use Rattle.script_run.specs.Meaning.{Ready}
+use Rattle.script_run.specs.declared.Progress.{Progress}
 use Rattle.script_run.proofs.States.{start-ready}
 use Rattle.concur_board.proofs.run.Statement.{statement}
 use Rattle.concur_board.proofs.run.Tie as tie
 
+-- what each turn leaves
+record Left (table kept input out : List ℕ) (q : Progress) (table′ kept′ input′ out′ : List ℕ) : Type 0 where
+  ready : Ready q table′ kept′
+  table-long : length table′ ≡ length table
+  kept-long : length kept′ ≡ length kept
+  input-long : length input′ ≡ length input
+  out-long : length out′ ≡ length out
+  room : longestPrinted ≤ length out′
+
 abbrev Inv-loop : tie.InvT-loop
-Inv-loop table₀ kept₀ input₀ out₀ progress₀ turns₀ table kept input out progress turns =
-    (Ready progress table kept) × ((length table ≡ length table₀) × ((length kept ≡ length kept₀) × ((length input ≡ length input₀) × ((length out ≡ length out₀) × (44 ≤ length out)))))
+Inv-loop table₀ kept₀ input₀ out₀ progress₀ turns₀ table kept input out progress turns = Left table₀ kept₀ input₀ out₀ progress table kept input out
 
 abbrev μ-loop : tie.MeasureT-loop
 μ-loop table₀ kept₀ input₀ out₀ progress₀ turns₀ table kept input out progress turns = turns
 
+-- The places.
+
+abbrev read-back : tie.After-slice-known8 Inv-loop μ-loop → tie.After-read-some Inv-loop μ-loop
+read-back c = c .before .before .before .before .before .before .before .before
+
+abbrev round : tie.After-read-some Inv-loop μ-loop → tie.At-loop Inv-loop μ-loop
+round c = c .before .before .before .before .before .before
+
+abbrev written : tie.After-write-out-arg Inv-loop μ-loop → tie.After-finish Inv-loop μ-loop
+written c = c .before .before .before .before .before
+
+-- The needs.
+
 loop-holds : tie.Need-loop-holds Inv-loop μ-loop
 loop-holds c =
-    let a = c .before .before .before .before .args in
-    (start-ready (a .table .now) (a .kept .now) (c .before .before .before .before .pre .0) (c .before .before .before .before .pre .1 .0), (refl, (refl, (refl, (refl, c .before .before .before .before .pre .1 .1)))))
+    let s = c .before .before .before .before in
+    record {
+      ready = start-ready (s .args .table .now) (s .args .kept .now) (s .pre .0) (s .pre .1 .0);
+      table-long = refl;
+      kept-long = refl;
+      input-long = refl;
+      out-long = refl;
+      room = s .pre .1 .1;
+    }
 
 read-some-requires : tie.Need-read-some-requires Inv-loop μ-loop
-read-some-requires c κs = (c .before .before .before .before .before .loop .inv .0, c .before .before .before .before .before .loop .inv .1 .1 .1 .1 .1)
+read-some-requires c κs = let i = (c .before .before .before .before .before .loop) .inv in (i .ready, i .room)
+
+loop-less : tie.Need-loop-less Inv-loop μ-loop
+loop-less c = c .turns-left .ensures .1
 
 loop-again : tie.Need-loop-again Inv-loop μ-loop
 loop-again c =
-    let i = c .before .before .before .before .before .before .before .before .before .before .before .before .before .before .before .before .before .loop .inv in
-    let r = c .before .before .before .before .before .before .before .before .before .before .before .read-some in (
-      r .ensures,
-      (
-        r .kept .0 ∙ i .1 .0,
-        (
-          r .kept .1 .0 ∙ i .1 .1 .0,
-          (
-            r .kept .1 .1 .1 .0 ∙ i .1 .1 .1 .0,
-            (
-              r .kept .1 .1 .1 .1 .0 ∙ i .1 .1 .1 .1 .0,
-              (let k = r .kept .1 .1 .1 .1 .0 in let room = i .1 .1 .1 .1 .1 in omega arith),
-            ),
-          ),
-        ),
-      ),
-    )
-
-loop-again-2 : tie.Need-loop-again-2 Inv-loop μ-loop
-loop-again-2 c =
-    let i = c .before .before .before .before .before .before .before .before .before .before .before .before .before .before .before .before .before .loop .inv in
-    let r = c .before .before .before .before .before .before .before .before .before .before .before .read-some in (
-      r .ensures,
-      (
-        r .kept .0 ∙ i .1 .0,
-        (
-          r .kept .1 .0 ∙ i .1 .1 .0,
-          (
-            r .kept .1 .1 .1 .0 ∙ i .1 .1 .1 .0,
-            (
-              r .kept .1 .1 .1 .1 .0 ∙ i .1 .1 .1 .1 .0,
-              (let k = r .kept .1 .1 .1 .1 .0 in let room = i .1 .1 .1 .1 .1 in omega arith),
-            ),
-          ),
-        ),
-      ),
-    )
+    let back = read-back (c .before .before) in
+    let r = back .read-some in
+    let i = round back .loop .inv in
+    let same = r .kept .1 .1 .1 .1 .0 in
+    record {
+      ready = r .ensures .0;
+      table-long = r .kept .0 ∙ i .table-long;
+      kept-long = r .kept .1 .0 ∙ i .kept-long;
+      input-long = r .kept .1 .1 .1 .0 ∙ i .input-long;
+      out-long = same ∙ i .out-long;
+      room = omega (arith, i .room);
+    }
 
 finish-requires : tie.Need-finish-requires Inv-loop μ-loop
-finish-requires c κs = (c .before .before .before .before .loop .inv .0, c .before .before .before .before .loop .inv .1 .1 .1 .1 .1)
+finish-requires c κs = let i = (c .before .before .before .before .loop) .inv in (i .ready, i .room)
 
 slice-aggregate-write-out : tie.Need-slice-aggregate-write-out Inv-loop μ-loop
-slice-aggregate-write-out c = sym (length-take-le (c .before .before .before .before .before .finish .result) (c .before .before .before .before .before .finish .last .1 .1 .1 .0) (c .before .before .before .before .before .finish .ensures .0))
+slice-aggregate-write-out c =
+    let f = written c .finish in
+    sym (length-take-le (f .result) (f .last .1 .1 .1 .0) (f .ensures .0))
 
 pub run-spec : {M : Type 1} → statement M
 run-spec =
@@ -80,10 +91,8 @@ run-spec =
     loop-holds
     read-some-requires
     (λ c. search needs)
-    (λ c. search needs)
+    loop-less
     loop-again
-    (λ c. search needs)
-    loop-again-2
     finish-requires
     (λ c. search needs)
     slice-aggregate-write-out

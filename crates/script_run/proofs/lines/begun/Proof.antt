@@ -1,7 +1,7 @@
--- `begun` meets its contract. Assumes nothing.
+-- `begun` meets its contract: by its test of the step.
 use borrow.Author.Tests.{eq-eqb, ne-eqb}
-use Rattle.script_run.proofs.steps.begun.Statement.{statement}
-use Rattle.script_run.proofs.steps.begun.Tie as tie
+use Rattle.script_run.proofs.lines.begun.Statement.{statement}
+use Rattle.script_run.proofs.lines.begun.Tie as tie
 
 returns : tie.Need-returns
 returns c = rw (eq-eqb (c .before .args .step) 0 (c .if1 .taken))
