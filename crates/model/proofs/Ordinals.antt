@@ -10,10 +10,10 @@ use lib.Dec.{eqb, ltb}
 use borrow.Author.Tests.{eq-eqb, ltb-true, ltb-false}
 use Rattle.lists.proofs.Functions.{on, fails}
 use Rattle.model.specs.Records.{Value}
-use Rattle.model.specs.Runs.{Call, begin, deliver, crash, Seen}
+use Rattle.model.specs.Runs.{Call, begin, deliver, crash, Seen, Step, step}
 use Rattle.model.specs.Reference.{Operation}
 use Rattle.model.specs.History.{Op}
-use Rattle.model.specs.Positions.{Step, step, IsBegin, IsDeliver, beganBy, begunCount, Decided}
+use Rattle.model.specs.Positions.{IsBegin, IsDeliver, beganBy, begunCount, Decided}
 
 -- A member's count of begins: one more at a begin by it that was answered 0, and the same at any other step.
 

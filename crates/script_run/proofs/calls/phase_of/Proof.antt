@@ -1,4 +1,4 @@
--- `phase_of` meets its contract. Assumes nothing.
+-- `phase_of` meets its contract: the member has its number and its phase is read, or it has none.
 use borrow.Author.Needs.{needs}
 use mathlib.Core.Path.{_≡_, sym, _∙_}
 use Prim.Native.Nat.{_+_}
@@ -12,20 +12,23 @@ use Rattle.script_run.proofs.Held.{whole-some}
 use Rattle.script_run.proofs.calls.phase_of.Statement.{statement}
 use Rattle.script_run.proofs.calls.phase_of.Tie as tie
 
+abbrev start : tie.After-is-numbered → tie.Start
+start c = c .before .before .before
+
 shared-slice-read-n : tie.Need-shared-slice-read-n
 shared-slice-read-n c = whole-some (c .before .before .args .table .now) (c .before .before .pre)
 
 phase-requires : tie.Need-phase-requires
 phase-requires c κs =
-    let a = c .before .before .before .before .args in
-    let n = words (a .table .now) 0 in
-    let e : inside n (a .member) ≡ true = sym (c .before .is-numbered .ensures) ∙ c .if1 .taken in
-    ((c .before .before .before .before .pre), record { least = inside-low n (a .member) e; most = inside-high n (a .member) e })
+    let s = start (c .before) in
+    let n = words (s .args .table .now) 0 in
+    let e : inside n (s .args .member) ≡ true = sym (c .before .is-numbered .ensures) ∙ c .if1 .taken in
+    (s .pre, record { least = inside-low n (s .args .member) e; most = inside-high n (s .args .member) e })
 
 returns-2 : tie.Need-returns-2
 unfolding phaseWords
 returns-2 c =
-    let a = c .before .before .before .before .args in
+    let a = start (c .before) .args in
     let l = a .table .now in
     let n = words l 0 in
     let e : inside n (a .member) ≡ false = sym (c .before .is-numbered .ensures) ∙ c .if1 .left in
@@ -33,4 +36,10 @@ returns-2 c =
 
 pub phase-of-spec : {M : Type 1} → statement M
 phase-of-spec =
-    tie.close (tie.spec shared-slice-read-n (λ c κs. search needs) phase-requires (λ c. search needs) returns-2)
+    tie.close
+    (tie.spec
+    shared-slice-read-n
+    (λ c κs. search needs)
+    phase-requires
+    (λ c. search needs)
+    returns-2)
