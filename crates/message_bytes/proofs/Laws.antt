@@ -10,7 +10,7 @@ use Rattle.lists.proofs.Functions.{pasted-one, pasted-join, pasted-same, number
 use Rattle.lists.proofs.Parts.{words-set, words-more, tabulate-at}
 use Rattle.model.specs.RecordWords.{rowOf, matrixWord, recordWords}
 use Rattle.model.specs.Messages.{numberBytes, byteIn, recordByte, recordLength}
-use Rattle.laws.proofs.Records.{row-next, matrixWord-at, head-words, value-words, matrix-words, valueOf-at}
+use Rattle.laws.proofs.Records.{square-small, row-within, row-next, matrixWord-at, head-words, value-words, matrix-words, valueOf-at}
 use Rattle.laws.proofs.Messages.{byteIn-at, byteIn-from, byteIn-same, byte-first, byte-further}
 use Rattle.rows.specs.declared.Row.{Row}
 use Rattle.rows.specs.Meaning.{rowIn, matrixIn, noRow}
@@ -54,6 +54,14 @@ row-named r n g h e =
     ap (λ l. numbered 12 0 (words l)) e
     ∙ numbered-same 12 0 (words (tabulate 12 (pasted 0 n g (λ k. 0)))) (pasted 0 n g (λ k. 0)) (tabulate-at 12 (pasted 0 n g (λ k. 0)))
     ∙ numbered-padded 12 n 0 g h
+
+-- row j lies within the matrix, and the matrix is small
+pub record RowFits (n j : ℕ) : Type 0 where
+  pub within : j * n + n ≤ n * n
+  pub small : n * n ≤ 144
+
+pub row-fits : (n j : ℕ) → n ≤ 12 → j < n → RowFits n j
+row-fits n j h p = record { within = row-within n j p; small = square-small n h }
 
 -- one row more of a matrix written
 pub row-written : (m : List Row) (n j a : ℕ) (w : ℕ → ℕ) → n ≤ 12 → j < n

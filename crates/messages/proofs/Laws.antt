@@ -19,7 +19,7 @@ use Rattle.model.specs.Messages.{Message, submit, reply, commit, outcome, kindO
 use Rattle.model.specs.Messages.{recordBytes, encode, fitMessage, fitGiven, writtenLength, writeNumber, writtenTo}
 use Rattle.laws.proofs.Messages.{heading, by-kind, length-recordBytes, length-encode, writable-of}
 use Rattle.message_bytes.proofs.Laws.{stored}
-use Rattle.messages.specs.Meaning.{Fields, Fronted, messageOf}
+use Rattle.messages.specs.Meaning.{Fields, Fronted, onlyRecords, messageOf}
 
 -- Runs of bytes one after the other, and a list whose front was written.
 
@@ -56,6 +56,10 @@ fronted-more p q l t u k e f h = h ∙ ap (pasted k (length q) (words q)) f ∙ 
 pub fronted-record : (n : ℕ) (p : List ℕ) (r : Rec) (l t u : List ℕ) (k : ℕ) → k ≡ length p → Fronted p l t
     → words u ≡ pasted k (recordLength n) (recordByte (words (recordWords n r))) (words t) → Fronted (p ++ recordBytes n r) l u
 fronted-record n p r l t u k e f h = fronted-more p (recordBytes n r) l t u k e f (h ∙ record-bytes n k r (words t))
+
+-- Equal records make equal fields.
+pub same-records : (kind : ℕ) {a b c d : Rec} → a ≡ b → c ≡ d → onlyRecords kind a c ≡ onlyRecords kind b d
+same-records kind p q i = onlyRecords kind (p i) (q i)
 
 -- The message that the writer is handed, by its kind.
 

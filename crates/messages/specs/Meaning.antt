@@ -36,17 +36,22 @@ fieldsIn m = record {
 }
 
 -- The reader: a message's parts, the unused ones zero, a commit's record in `newest`; all zero where there is none.
-unfoldable pub fieldsOf : Option Message → Fields
-fieldsOf none = record {
-  kind = 0;
+
+-- two records, the other parts zero
+abbrev pub onlyRecords : ℕ → Rec → Rec → Fields
+onlyRecords kind newest stored = record {
+  kind = kind;
   member = 0;
   slot = 0;
   operation = 0;
   count = 0;
   result = 0;
-  newest = zeroRecord;
-  stored = zeroRecord;
+  newest = newest;
+  stored = stored;
 }
+
+unfoldable pub fieldsOf : Option Message → Fields
+fieldsOf none = onlyRecords 0 zeroRecord zeroRecord
 fieldsOf (some (submit i r t c)) = record {
   kind = 1;
   member = i;
@@ -57,26 +62,8 @@ fieldsOf (some (submit i r t c)) = record {
   newest = zeroRecord;
   stored = zeroRecord;
 }
-fieldsOf (some (reply a b)) = record {
-  kind = 2;
-  member = 0;
-  slot = 0;
-  operation = 0;
-  count = 0;
-  result = 0;
-  newest = a;
-  stored = b;
-}
-fieldsOf (some (commit r)) = record {
-  kind = 3;
-  member = 0;
-  slot = 0;
-  operation = 0;
-  count = 0;
-  result = 0;
-  newest = r;
-  stored = zeroRecord;  -- a commit has one record
-}
+fieldsOf (some (reply newest stored)) = onlyRecords 2 newest stored
+fieldsOf (some (commit r)) = onlyRecords 3 r zeroRecord
 fieldsOf (some (outcome o)) = record {
   kind = 4;
   member = 0;
@@ -97,14 +84,6 @@ messageOf f =
     (cond (eqb (f .kind) 4) (some (outcome (f .result)))
     none)))
 
--- What the steps of the reader and the writer leave. A struct that no number refuses, and that holds the message m:
-abbrev pub Holds : MessageStruct → Message → Type 0
-Holds r m = (r .number ≡ 0) × (fieldsIn r ≡ fieldsOf (some m))
-
--- The bytes p at the front of a list, the others as they were:
-abbrev pub Fronted : List ℕ → List ℕ → List ℕ → Type 0
-Fronted p before after = words after ≡ pasted 0 (length p) (words p) (words before)
-
 -- What the calls answer on a board of n. `read` of the bytes l: `readNumber n l`, and these fields.
 abbrev pub fieldsRead : ℕ → List ℕ → Fields
 fieldsRead n l = fieldsOf (decode n l)
@@ -118,3 +97,12 @@ lengthWritten n f out = writtenLength n (writable n (messageOf f) (length out))
 
 abbrev pub outputAfter : ℕ → Fields → List ℕ → List ℕ
 outputAfter n f out = writtenTo n (writable n (messageOf f) (length out)) out
+
+-- What the steps inside the reader and the writer leave; no contract of a public call cites these. A struct that no number refuses, and
+-- that holds the message m:
+abbrev pub Holds : MessageStruct → Message → Type 0
+Holds r m = (r .number ≡ 0) × (fieldsIn r ≡ fieldsOf (some m))
+
+-- The bytes p at the front of a list, the others as they were:
+abbrev pub Fronted : List ℕ → List ℕ → List ℕ → Type 0
+Fronted p before after = words after ≡ pasted 0 (length p) (words p) (words before)

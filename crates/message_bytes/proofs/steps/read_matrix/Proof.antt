@@ -1,6 +1,6 @@
 -- `read_matrix` meets its contract: the first j rows are those passed, the others zero.
 use borrow.Author.Needs.{needs}
-use Prim.Native.Nat.{ℕ, _+_, _-_, _*_, _≤_}
+use Prim.Native.Nat.{ℕ, _-_, _*_, _≤_}
 use mathlib.Core.Path.{_≡_, refl, sym, ap, _∙_}
 use native.Mathlib.Omega.{arith}
 use lib.ListN.{length, length-set}
@@ -11,10 +11,10 @@ use Rattle.lists.proofs.Parts.{seen, seen-more}
 use Rattle.model.specs.Rows.{Row, zeroMatrix}
 use Rattle.model.specs.RecordWords.{rowOf, matrixOf}
 use Rattle.model.specs.Messages.{numberIn}
-use Rattle.laws.proofs.Records.{square-small, row-within}
 use Rattle.laws.proofs.Messages.{numberIn-from}
 use Rattle.rows.specs.Meaning.{rowIn, noRow}
 use Rattle.rows.proofs.Laws.{zero-rows, matrix-read}
+use Rattle.message_bytes.proofs.Laws.{RowFits, row-fits}
 use Rattle.message_bytes.proofs.steps.read_matrix.Statement.{statement}
 use Rattle.message_bytes.proofs.steps.read_matrix.Tie as tie
 
@@ -32,12 +32,8 @@ abbrev μ-loop : tie.MeasureT-loop
 abbrev start : tie.In-loop Inv-loop μ-loop → tie.Start Inv-loop μ-loop
 start c = c .before .before .before
 
--- the row that is read lies within the matrix, and the matrix is small
-within : (c : tie.In-loop Inv-loop μ-loop) → let n = start c .args .n in c .before .loop .j * n + n ≤ n * n
-within c = row-within (start c .args .n) (c .before .loop .j) (omega arith)
-
-small : (c : tie.In-loop Inv-loop μ-loop) → start c .args .n * start c .args .n ≤ 144
-small c = square-small (start c .args .n) (start c .pre .0)
+fits : (c : tie.In-loop Inv-loop μ-loop) → RowFits (start c .args .n) (c .before .loop .j)
+fits c = row-fits (start c .args .n) (c .before .loop .j) (start c .pre .0) (c .loop-test .taken)
 
 loop-holds : tie.Need-loop-holds Inv-loop μ-loop
 loop-holds c = (search needs, (refl, zero-rows ∙ sym (pasted-none 0 _ _)))
@@ -74,10 +70,10 @@ read-matrix-spec =
     Inv-loop
     μ-loop
     loop-holds
-    (λ c. record { fits = omega (arith, within c, small c) })
-    (λ c. record { fits = omega (arith, within c, small c) })
-    (λ c. record { fits = omega (arith, within c) })
-    (λ c κs. (search needs, omega (arith, within c)))
+    (λ c. record { fits = omega (arith, fits c .within, fits c .small) })
+    (λ c. record { fits = omega (arith, fits c .within, fits c .small) })
+    (λ c. record { fits = omega (arith, fits c .within) })
+    (λ c κs. (search needs, omega (arith, fits c .within)))
     (λ c. search needs)
     (λ c. search needs)
     (λ c. search needs)

@@ -10,9 +10,8 @@ use Rattle.lists.specs.Parts.{words}
 use Rattle.lists.proofs.Functions.{pasted-none}
 use Rattle.model.specs.RecordWords.{matrixWord}
 use Rattle.model.specs.Messages.{byteIn}
-use Rattle.laws.proofs.Records.{square-small, row-within}
 use Rattle.rows.specs.Meaning.{matrixIn}
-use Rattle.message_bytes.proofs.Laws.{row-written}
+use Rattle.message_bytes.proofs.Laws.{RowFits, row-fits, row-written}
 use Rattle.message_bytes.proofs.steps.write_matrix.Statement.{statement}
 use Rattle.message_bytes.proofs.steps.write_matrix.Tie as tie
 
@@ -26,12 +25,8 @@ abbrev μ-loop : tie.MeasureT-loop
 abbrev start : tie.In-loop Inv-loop μ-loop → tie.Start Inv-loop μ-loop
 start c = c .before .before .before
 
--- the row that is written lies within the matrix, and the matrix is small
-within : (c : tie.In-loop Inv-loop μ-loop) → let n = start c .args .n in c .before .loop .j * n + n ≤ n * n
-within c = row-within (start c .args .n) (c .before .loop .j) (omega arith)
-
-small : (c : tie.In-loop Inv-loop μ-loop) → start c .args .n * start c .args .n ≤ 144
-small c = square-small (start c .args .n) (start c .pre .0)
+fits : (c : tie.In-loop Inv-loop μ-loop) → RowFits (start c .args .n) (c .before .loop .j)
+fits c = row-fits (start c .args .n) (c .before .loop .j) (start c .pre .0) (c .loop-test .taken)
 
 loop-holds : tie.Need-loop-holds Inv-loop μ-loop
 loop-holds c = (search needs, (refl, rw zero-mul (sym (pasted-none _ _ _))))
@@ -64,12 +59,12 @@ write-matrix-spec =
     Inv-loop
     μ-loop
     loop-holds
-    (λ c. record { fits = omega (arith, within (c .before), small (c .before)) })
-    (λ c. record { fits = omega (arith, within (c .before), small (c .before)) })
-    (λ c. record { fits = omega (arith, within (c .before)) })
+    (λ c. record { fits = omega (arith, fits (c .before) .within, fits (c .before) .small) })
+    (λ c. record { fits = omega (arith, fits (c .before) .within, fits (c .before) .small) })
+    (λ c. record { fits = omega (arith, fits (c .before) .within) })
     (λ c. search needs)
     (λ c. search needs)
-    (λ c κs. (search needs, omega (arith, within (c .before .before))))
+    (λ c κs. (search needs, omega (arith, fits (c .before .before) .within)))
     (λ c. search needs)
     (λ c. search needs)
     loop-again

@@ -6,6 +6,7 @@ use Rattle.lists.specs.Functions.{from}
 use Rattle.lists.specs.Parts.{words}
 use Rattle.model.specs.Messages.{recordFrom}
 use Rattle.messages.specs.Meaning.{fieldsIn, fieldsOf}
+use Rattle.messages.proofs.Laws.{same-records}
 use Rattle.messages.proofs.reader.read_reply.Statement.{statement}
 use Rattle.messages.proofs.reader.read_reply.Tie as tie
 
@@ -15,19 +16,8 @@ returns c =
     let place = c .before in
     let first = place .before in
     let a = first .before .before .args in
-    let second = c .read-record2 .ensures ∙ ap (λ k. recordFrom (a .n) (from (words (a .s .now)) k)) (place .second-at .ensures) in (
-      refl,
-      λ i. record {
-        kind = 2;
-        member = 0;
-        slot = 0;
-        operation = 0;
-        count = 0;
-        result = 0;
-        newest = first .read-record .ensures i;
-        stored = second i;
-      },
-    )
+    let stored = c .read-record2 .ensures ∙ ap (λ k. recordFrom (a .n) (from (words (a .s .now)) k)) (place .second-at .ensures) in
+    (refl, same-records 2 (first .read-record .ensures) stored)
 
 pub read-reply-spec : {M : Type 1} → statement M
 read-reply-spec =
