@@ -13,6 +13,12 @@ pub on {ℓ} : {B : Type ℓ} (b : Bool) → (b ≡ true → B) → (b ≡ false
 on true t f = t refl
 on false t f = f refl
 
+-- The same of where i stands: before, in or after the k places from a on.
+pub by-place : {B : Type 0} (a k i : ℕ) → (i < a → B) → (a ≤ i → i < a + k → B) → (a + k ≤ i → B) → B
+by-place a k i before within after = on (leb a i)
+    (λ p. on (ltb i (a + k)) (λ q. within (leb-true a i p) (ltb-true i (a + k) q)) (λ q. after (ltb-false i (a + k) q)))
+    (λ p. before (leb-false a i p))
+
 -- What holds on either side of a test holds of its outcome, or of its two outcomes.
 pub split {ℓ} : {A : Type 0} (P : A → Type ℓ) (b : Bool) {x y : A} → (b ≡ true → P x) → (b ≡ false → P y) → P (cond b x y)
 split P true p q = p refl
@@ -27,12 +33,6 @@ split-both P false p q = q refl
 infixr 4 _and_
 abbrev pub _and_ : {A B : Type 0} → A → B → A × B
 a and b = (a, b)
-
--- The same of where i stands: before, in or after the k places from a on.
-pub by-place : {B : Type 0} (a k i : ℕ) → (i < a → B) → (a ≤ i → i < a + k → B) → (a + k ≤ i → B) → B
-by-place a k i before within after = on (leb a i)
-    (λ p. on (ltb i (a + k)) (λ q. within (leb-true a i p) (ltb-true i (a + k) q)) (λ q. after (ltb-false i (a + k) q)))
-    (λ p. before (leb-false a i p))
 
 pub both : {a b : Bool} → a ≡ true → b ≡ true → (a && b) ≡ true
 both p q = rw (p, q)

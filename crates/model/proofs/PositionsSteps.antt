@@ -266,31 +266,18 @@ found-after {low} {P} st {p = p} {w = w} (ends i v four d) h =
 
 begin-stable : (k : ℕ) → Stable 1 (λ o. o .beginAt ≡ k)
 unfolding submittedOp decidedOp endedOp
-begin-stable k = record {
-  starts = omega arith;
-  submitted = λ at o l e. e;
-  decided = λ at a o l e. e;
-  ended = λ at v o z e. e;
-}
+begin-stable k = record { starts = omega arith; submitted = λ at o l e. e; decided = λ at a o l e. e; ended = λ at v o z e. e }
 
 submit-stable : (k : ℕ) → Stable 2 (λ o. o .submitAt ≡ k)
 unfolding decidedOp endedOp
-submit-stable k = record {
-  starts = omega arith;
-  submitted = λ at o l e. absurd (omega arith);
-  decided = λ at a o l e. e;
-  ended = λ at v o z e. e;
-}
+submit-stable k =
+    record { starts = omega arith; submitted = λ at o l e. absurd (omega arith); decided = λ at a o l e. e; ended = λ at v o z e. e }
 
 -- with the slot, as a taken submit has it
 slot-stable : (k r : ℕ) → Stable 2 (λ o. (o .submitAt ≡ k) × (o .given .slot ≡ r))
 unfolding decidedOp endedOp
-slot-stable k r = record {
-  starts = omega arith;
-  submitted = λ at o l e. absurd (omega arith);
-  decided = λ at a o l e. e;
-  ended = λ at v o z e. e;
-}
+slot-stable k r =
+    record { starts = omega arith; submitted = λ at o l e. absurd (omega arith); decided = λ at a o l e. e; ended = λ at v o z e. e }
 
 verdict-stable : (k : ℕ) → Stable 4 (λ o. o .verdictAt ≡ k)
 unfolding endedOp

@@ -29,7 +29,7 @@ by-phase Q p z one two three more =
     split Q (eqb p 3) (λ e. three (eqb-true p 3 e)) (λ e3.
     let d1 = eqb-false p 1 e1 in let d2 = eqb-false p 2 e2 in let d3 = eqb-false p 3 e3 in more (omega arith))))
 
--- The board.
+-- The board: the call's step, and what it leaves.
 
 pub data Taken (kind : Kind) (n : ℕ) (b : Board) : Call → Board → Type 0 where
   begins : (i r t : ℕ) (v : Value)
@@ -88,7 +88,7 @@ pub by-verdict {ℓ} : (Q : Board → Type ℓ) (b : Board) (i : ℕ)
 by-verdict Q b i accepted aborted = on (wins (b .host (b .members i .slot)) (sentRecord i (b .members i))) accepted
     (λ lost. rw (aborted-leaves b i lost) (aborted lost))
 
--- The reference.
+-- The reference: the same.
 
 pub data RefTaken (ref : Reference) : Call → Reference → Type 0 where
   begins : (i r t : ℕ) (v : Value) → ref .members i .phase ≡ 0

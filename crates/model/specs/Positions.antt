@@ -43,14 +43,14 @@ beganBy i (some (step (begin j r t v) s)) = eqb j i && eqb (s .answer) 0
 beganBy i (some (step (deliver j) s)) = false
 beganBy i (some (step (crash j) s)) = false
 
--- how many of the steps 1 to k are
+-- how many of the steps 1 to k are: up to an operation's own begin, its ordinal
 unfoldable pub begunCount : (ℕ → Option Step) → ℕ → ℕ → ℕ
 begunCount at i zero = 0
 begunCount at i (suc k) = begunCount at i k + cond (beganBy i (at (suc k))) 1 0
 
 -- The operations of a watch, given the step of each number.
 
--- one that has not reached its verdict, of member i
+-- the one that member i began last, as it was before its verdict
 pub record Begun (at : ℕ → Option Step) (i : ℕ) (o : Op) : Type 0 where
   pub member : 0 < o .beginAt → o .given .member ≡ i
   pub began : 0 < o .beginAt → IsBegin (o .given) (at (o .beginAt))
