@@ -33,19 +33,22 @@ module _ {A : Type 0} (l : List ℕ) (due : ℕ) where
   unfolding beside
   calls e x y p = rw (eq-eqb (length l) due e) p
 
--- Two of them.
-module _ {A : Type 0} (l : List ℕ) (due : ℕ) (m : List ℕ) (dueToo : ℕ) where
-  pub refuses-first : (length l ≡ due → ⊥) → (x y : A) → x ≡ besideTwo l due m dueToo x y
-  unfolding besideTwo
-  refuses-first ne x y = refuses l due ne x (beside m dueToo x y)
+-- Two of them, beside a call that leaves three things.
+module _ {A B C : Type 0} (l : List ℕ) (due : ℕ) (m : List ℕ) (dueToo : ℕ) (x y : A) (z t : B) (u v : C) where
+  abbrev Leaves : A → B → C → Type 0
+  Leaves a b c = (a ≡ besideTwo l due m dueToo x y) × ((b ≡ besideTwo l due m dueToo z t) × (c ≡ besideTwo l due m dueToo u v))
 
-  pub refuses-second : length l ≡ due → (length m ≡ dueToo → ⊥) → (x y : A) → x ≡ besideTwo l due m dueToo x y
-  unfolding besideTwo
-  refuses-second e ne x y = calls l due e x (beside m dueToo x y) (refuses m dueToo ne x y)
+  pub refuses-first : (length l ≡ due → ⊥) → Leaves x z u
+  unfolding besideTwo beside
+  refuses-first ne = rw (ne-eqb (length l) due ne) (refl, (refl, refl))
 
-  pub calls-both : length l ≡ due → length m ≡ dueToo → (x y : A) {z : A} → z ≡ y → z ≡ besideTwo l due m dueToo x y
-  unfolding besideTwo
-  calls-both e f x y p = calls l due e x (beside m dueToo x y) (calls m dueToo f x y p)
+  pub refuses-second : length l ≡ due → (length m ≡ dueToo → ⊥) → Leaves x z u
+  unfolding besideTwo beside
+  refuses-second e ne = rw (eq-eqb (length l) due e, ne-eqb (length m) dueToo ne) (refl, (refl, refl))
+
+  pub calls-both : length l ≡ due → length m ≡ dueToo → {a : A} {b : B} {c : C} → a ≡ y → b ≡ t → c ≡ v → Leaves a b c
+  unfolding besideTwo beside
+  calls-both e f p q r = rw (eq-eqb (length l) due e, eq-eqb (length m) dueToo f) (p, (q, r))
 
 -- Two lists written one after the other to the end of a list.
 pub both-replaced : (l p q : List ℕ) (a b : ℕ) → a + length p ≡ b → length l ≡ b + length q

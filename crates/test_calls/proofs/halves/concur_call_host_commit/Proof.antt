@@ -21,17 +21,6 @@ fits c = c .before
 abbrev start : tie.Else1 → tie.Start
 start c = c .before .before .before .before
 
-returns : tie.Need-returns
-returns c =
-    let ne = c .if1 .taken in
-    (refuses-first _ _ _ _ ne _ _, (refuses-first _ _ _ _ ne _ _, refuses-first _ _ _ _ ne _ _))
-
-returns-2 : tie.Need-returns-2
-returns-2 c =
-    let e = c .before .if1 .left in
-    let ne = c .if2 .taken in
-    (refuses-second _ _ _ _ e ne _ _, (refuses-second _ _ _ _ e ne _ _, refuses-second _ _ _ _ e ne _ _))
-
 load-at-requires : tie.Need-load-at-requires
 load-at-requires c κs = omega (arith, c .before .if1 .left)
 
@@ -39,27 +28,23 @@ returns-3 : tie.Need-returns-3
 returns-3 c =
     let k = took c in
     let both = fits (loaded k) in
-    let p = both .before .if1 .left in
     let q = both .if2 .left in
     let a = start (both .before) .args in
     let l = a .entries .now in
     let e = given (a .n) (a .committed .now) 0 (loaded k .load-at .ensures) in
-    let done = k .take-commit .ensures in (
-      calls-both _ _ _ _ p q _ _ (done .0 ∙ ap (commitNumber (a .n) l) e),
-      (
-        calls-both _ _ _ _ p q _ _ (done .1 .1 ∙ ap (commitWords (a .n) l) e),
-        calls-both _ _ _ _ p q _ _
-            (one-stored (a .outcome .now) (k .take-commit .result .outcome) q
-            ∙ ap (λ o. o ∷ []) (done .1 .0 ∙ ap (commitOutcome (a .n) l) e)),
-      ),
-    )
+    let done = k .take-commit .ensures in
+    let number = done .0 ∙ ap (commitNumber (a .n) l) e in
+    let words = done .1 .1 ∙ ap (commitWords (a .n) l) e in
+    let outcome = done .1 .0 ∙ ap (commitOutcome (a .n) l) e in
+    let stored = one-stored (a .outcome .now) (k .take-commit .result .outcome) q ∙ ap (λ o. o ∷ []) outcome in
+    calls-both _ _ _ _ _ _ _ _ _ _ (both .before .if1 .left) q number words stored
 
 pub concur-call-host-commit-spec : {M : Type 1} → statement M
 concur-call-host-commit-spec =
     tie.close
     (tie.spec
-    returns
-    returns-2
+    (λ c. refuses-first _ _ _ _ _ _ _ _ _ _ (c .if1 .taken))
+    (λ c. refuses-second _ _ _ _ _ _ _ _ _ _ (c .before .if1 .left) (c .if2 .taken))
     load-at-requires
     (λ c κs. search needs)
     (λ c. omega arith)

@@ -25,17 +25,6 @@ fits c = c .before
 abbrev start : tie.Else1 → tie.Start
 start c = c .before .before .before .before
 
-returns : tie.Need-returns
-returns c =
-    let ne = c .if1 .taken in
-    (refuses-first _ _ _ _ ne _ _, (refuses-first _ _ _ _ ne _ _, refuses-first _ _ _ _ ne _ _))
-
-returns-2 : tie.Need-returns-2
-returns-2 c =
-    let e = c .before .if1 .left in
-    let ne = c .if2 .taken in
-    (refuses-second _ _ _ _ e ne _ _, (refuses-second _ _ _ _ e ne _ _, refuses-second _ _ _ _ e ne _ _))
-
 cast-written : tie.Need-cast-written
 cast-written c =
     let w = wrote c in
@@ -48,7 +37,6 @@ unfolding messageGiven
 returns-3 c =
     let w = wrote c in
     let both = fits (loaded w) in
-    let p = both .before .if1 .left in
     let q = both .if2 .left in
     let a = start (both .before) .args in
     let out = a .out .now in
@@ -57,14 +45,14 @@ returns-3 c =
     let long = w .write .ensures .1 .0 ∙ ap (λ m. writtenLength (a .n) (writable (a .n) m (length out))) m in
     let bytes = w .write .ensures .1 .1 ∙ ap (λ m. writtenTo (a .n) (writable (a .n) m (length out)) out) m in
     let stored = one-stored (a .written .now) (w .write .result .length) q ∙ ap (λ k. k ∷ []) long in
-    (calls-both _ _ _ _ p q _ _ number, (calls-both _ _ _ _ p q _ _ bytes, calls-both _ _ _ _ p q _ _ stored))
+    calls-both _ _ _ _ _ _ _ _ _ _ (both .before .if1 .left) q number bytes stored
 
 pub concur-call-write-spec : {M : Type 1} → statement M
 concur-call-write-spec =
     tie.close
     (tie.spec
-    returns
-    returns-2
+    (λ c. refuses-first _ _ _ _ _ _ _ _ _ _ (c .if1 .taken))
+    (λ c. refuses-second _ _ _ _ _ _ _ _ _ _ (c .before .if1 .left) (c .if2 .taken))
     (λ c κs. c .before .if1 .left)
     (λ c κs. search needs)
     cast-written
