@@ -15,7 +15,7 @@ use Rattle.model.specs.RecordWords.{valueAt, matrixAt, recordSize, rowOf, matri
 use Rattle.model.specs.Member.{Member, moved, haltNumber, joined, ownRecord, passed, failed, replied, completed, dropped, tookOver, returnedBy}
 use Rattle.model.specs.Board.{sentRecord}
 use Rattle.model.specs.Table.{phaseAt, haltAt, slotAt, operationAt, ownAt, acceptedAt, lastAt, pendingAt, knownAt, firstAt, secondAt, blockSize, memberOf}
-use Rattle.laws.proofs.Records.{recordOf-parts, recordOf-same, recordOf-words}
+use Rattle.laws.proofs.Records.{recordOf-parts, recordOf-same, recordOf-words, within-read}
 use Rattle.laws.proofs.Replies.{matrix-all, value-all, joined-within, haltNumber-within}
 use Rattle.laws.proofs.Steps.{Holds, holds-set, holds-copied, count-of, kept, moved-by, pasted-off}
 use Rattle.rows.specs.declared.Row.{Row}
@@ -81,6 +81,10 @@ pub known-loaded : (n : ℕ) (w : ℕ → ℕ) (known : List Row) {at : Places} 
     → matrixIn known ≡ memberOf n w .known
 unfolding memberOf
 known-loaded n w known lay e = e ∙ ap (λ k. matrixOf n (from w k)) (lay .known)
+
+-- a record, loaded from its place
+pub record-loaded : (n : ℕ) (w : ℕ → ℕ) {a b : ℕ} {r : Rec} → a ≡ b → r ≡ recordOf n (from w a) → recordWithin n r ≡ recordOf n (from w b)
+record-loaded n w {a} {b} e h = ap (recordWithin n) (h ∙ ap (λ k. recordOf n (from w k)) e) ∙ within-read n (from w b)
 
 -- The record that a member commits, as the code builds it, and what taking a reply comes to.
 

@@ -1,58 +1,79 @@
--- `finish` meets its contract. Assumes nothing.
+-- `finish` meets its contract: an outcome that is not accepted is dropped; else the value is read, then all is taken over and dropped, and a
+-- read hands back the value.
 use borrow.Author.Needs.{needs}
-use borrow.Author.Tests.{eq-eqb, ne-eqb, not-true, not-false}
-use mathlib.Core.Path.{refl, sym, ap, _∙_}
-use mathlib.Core.Bool.{true, false}
 use native.Mathlib.Omega.{arith}
+use mathlib.Core.Bool.{false, true}
+use mathlib.Core.Path.{_∙_, _≡_, ap, refl, sym}
+use borrow.Author.Tests.{eq-eqb, ne-eqb, not-false, not-true}
 use Rattle.lists.specs.Parts.{words}
-use Rattle.model.specs.RecordWords.{recordSize}
-use Rattle.model.specs.Member.{dropped, outcome}
+use Rattle.model.specs.Member.{Member, completed, dropped, outcome}
+use Rattle.model.specs.Messages.{fits}
+use Rattle.model.specs.RecordWords.{recordSize, valueOf}
 use Rattle.model.specs.Table.{blockSize, memberOf}
 use Rattle.laws.proofs.Blocks.{block-sum}
 use Rattle.laws.proofs.Tables.{block-small}
-use Rattle.member.proofs.Laws.{second-value, none-taken, value-taken, completed-by}
+use Rattle.member.proofs.Laws.{completed-by, none-taken, second-value, value-taken}
 use Rattle.member.proofs.steps.finish.Statement.{statement}
 use Rattle.member.proofs.steps.finish.Tie as tie
+
+abbrev start : tie.Else1 → tie.Start
+start c = c .before .before
+
+abbrev member : tie.Start → Member
+member s = memberOf (s .args .n) (words (s .args .block .now))
+
+abbrev laid : tie.After-load-value → tie.After-layout
+laid c = c .before .before .before
+
+abbrev valued : tie.After-take-over → tie.After-load-value
+valued c = c .before .before .before
+
+-- the value that a read hands back
+value : (c : tie.After-load-value) → valueOf (words (c .load-value .result)) ≡ member (start (laid c .before)) .second .value
+value c = rw (laid c .layout .ensures .second) at (c .load-value .ensures) ∙ second-value _ _
+
+abbrev taken : tie.After-drop2 → tie.After-take-over
+taken c = c .before .before .before .before
+
+completes : (c : tie.After-drop2) → let s = start (laid (valued (taken c)) .before) in
+    memberOf (s .args .n) (words (c .drop2 .last .0)) ≡ completed (member s)
+completes c = c .drop2 .ensures ∙ ap dropped (taken c .take-over .ensures) ∙ sym (completed-by _)
+
+won : (c : tie.Else1) → start c .args .accepted ≡ true
+won c = not-false _ (c .if1 .left)
 
 returns : tie.Need-returns
 unfolding outcome
 returns c =
-    let a = (c .before .before .before .before .before .before .args) in
-    let m = memberOf (a .n) (words (a .block .now)) in
-    rw (not-true (a .accepted) (c .before .before .before .before .if1 .taken)) (none-taken m false refl, c .before .before .drop .ensures)
+    let drops = c .before .before in
+    let s = drops .before .before .before .before in
+    rw (not-true (s .args .accepted) (drops .before .before .if1 .taken)) (none-taken (member s) false refl, drops .drop .ensures)
 
 add-load-value : tie.Need-add-load-value
 unfolding blockSize
-add-load-value c = record { fits = omega (arith, block-small (c .before .before .before .before .before .args .n) (c .before .before .before .before .before .pre .block .most)) }
+add-load-value c = let s = start (c .before .before .before) in record { fits = omega (arith, block-small (s .args .n) (s .pre .block .most)) }
 
 load-value-requires : tie.Need-load-value-requires
 unfolding blockSize recordSize
 load-value-requires c κs = omega arith
 
 slice-read-operation : tie.Need-slice-read-operation
-slice-read-operation c = omega (arith, block-sum (c .before .before .before .before .before .before .before .args .n))
+slice-read-operation c = omega (arith, block-sum (start (laid (c .before) .before) .args .n))
 
 returns-2 : tie.Need-returns-2
 unfolding outcome memberOf
 returns-2 c =
-    let a = (c .before .before .before .before .before .before .before .before .before .before .before .before .before .before .before .before .args) in
-    let w = words (a .block .now) in
-    let m = memberOf (a .n) w in
-    rw (not-false (a .accepted) (c .before .before .before .before .before .before .before .before .before .before .before .before .before .before .if1 .left)) (
-      value-taken m (c .before .before .before .before .before .before .before .before .before .before .load-value .result) (eq-eqb (w 4) 1 (c .if2 .taken)) ((rw (c .before .before .before .before .before .before .before .before .before .before .before .before .before .layout .ensures .second) at (c .before .before .before .before .before .before .before .before .before .before .load-value .ensures)) ∙ second-value (a .n) w),
-      c .before .before .before .drop2 .ensures ∙ ap dropped (c .before .before .before .before .before .before .before .take-over .ensures) ∙ sym (completed-by m),
-    )
+    let drops = c .before .before .before in
+    let v = valued (taken drops) in
+    let left = laid v .before in
+    rw (won left) (value-taken (member (start left)) (v .load-value .result) (eq-eqb _ 1 (c .if2 .taken)) (value v), completes drops)
 
 returns-3 : tie.Need-returns-3
 unfolding outcome memberOf
 returns-3 c =
-    let a = (c .before .before .before .before .before .before .before .before .before .before .before .before .before .before .before .before .args) in
-    let w = words (a .block .now) in
-    let m = memberOf (a .n) w in
-    rw (not-false (a .accepted) (c .before .before .before .before .before .before .before .before .before .before .before .before .before .before .if1 .left)) (
-      none-taken m true (ne-eqb (w 4) 1 (c .if2 .left)),
-      c .before .before .before .drop2 .ensures ∙ ap dropped (c .before .before .before .before .before .before .before .take-over .ensures) ∙ sym (completed-by m),
-    )
+    let drops = c .before .before .before in
+    let left = laid (valued (taken drops)) .before in
+    rw (won left) (none-taken (member (start left)) true (ne-eqb _ 1 (c .if2 .left)), completes drops)
 
 pub finish-spec : {M : Type 1} → statement M
 finish-spec =
