@@ -27,7 +27,8 @@ joined-slot : (n i r count : ℕ) (known newest : Matrix) → joined n i r count
 unfolding joined
 joined-slot n i r count known newest = rw (eq-eqb r r refl)
 
-joined-other : (n i r count : ℕ) (known newest : Matrix) (j : ℕ) → (j ≡ r → ⊥) → joined n i r count known newest j ≡ larger n (known j) (newest j)
+joined-other : (n i r count : ℕ) (known newest : Matrix) (j : ℕ) → (j ≡ r → ⊥)
+    → joined n i r count known newest j ≡ larger n (known j) (newest j)
 unfolding joined
 joined-other n i r count known newest j d = rw (ne-eqb j r d)
 

@@ -176,7 +176,8 @@ module _ (n : ℕ) (e : Entry) (stored c : Rec) where
   unfolding storedAfter
   stored-lost h = rw (wins-within, h)
 
-  pub entry-won : wins e c ≡ true → entryAfter e (recordWithin n c) ≡ record { submitMember = 0; submitCount = 0; newest = recordWithin n c }
+  pub entry-won : wins e c ≡ true
+      → entryAfter e (recordWithin n c) ≡ record { submitMember = 0; submitCount = 0; newest = recordWithin n c }
   unfolding entryAfter
   entry-won h = rw (wins-within, h)
 

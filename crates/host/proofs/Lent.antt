@@ -88,5 +88,6 @@ module _ {n r at size : ℕ} {l : List ℕ} (h : Lent n r l at size) where
 abbrev pub soundSlot : ℕ → List ℕ → ℕ → Bool
 soundSlot n l r = soundEntry n (hostOf n (words l) r) (storedRecordsOf n (words l) r)
 
-pub sound-lent : {n r at size : ℕ} {l : List ℕ} (h : Lent n r l at size) → soundEntry n (entryOf n (words (part h))) (storedOf n (words (part h))) ≡ soundSlot n l r
+pub sound-lent : {n r at size : ℕ} {l : List ℕ} (h : Lent n r l at size)
+    → soundEntry n (entryOf n (words (part h))) (storedOf n (words (part h))) ≡ soundSlot n l r
 sound-lent h = rw (entry-lent h, stored-lent h)

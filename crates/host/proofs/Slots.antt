@@ -19,6 +19,7 @@ module _ {A : Type 0} where
       put-all (λ r x. 1 ≤ r → r ≤ done + 1 → x ≡ g r) f (done + 1) (g (done + 1)) (λ p q. refl) (λ r d p q. h r p (omega arith))
 
   -- on all of them, where the one is read from words
-  pub agree-all : (n : ℕ) (d : A) (s : ℕ) (f : (ℕ → ℕ) → A) (w : ℕ → ℕ) (g : ℕ → A) → Agree n (pieces n d s f w) g → pieces n d s f w ≡ within n d g
+  pub agree-all : (n : ℕ) (d : A) (s : ℕ) (f : (ℕ → ℕ) → A) (w : ℕ → ℕ) (g : ℕ → A) → Agree n (pieces n d s f w) g
+      → pieces n d s f w ≡ within n d g
   unfolding pieces
   agree-all n d s f w g h = within-same n d (λ k. f (from w (place s k))) g (λ k p q. sym (pieces-at n d s f w k p q) ∙ h k p q)

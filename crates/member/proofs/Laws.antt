@@ -45,6 +45,15 @@ kept-held {n} {l} {at} r lay m e =
     let h = holds-copied o m (at .known) (at .first + matrixAt) (n * n) e (omega arith) (omega arith) in
     record { long = h .long; same = h .same ∙ rw (lay .accepted, lay .known, lay .first) }
 
+-- and after the value was copied
+pub last-held : {n : ℕ} {l : List ℕ} {w : ℕ → ℕ} {at : Places} → Holds (blockSize n) l w → LayoutOf n at → (m : List ℕ)
+    → m ≡ replaced l (at .last) (take 8 (drop (at .pending) l))
+    → Holds (blockSize n) m (pasted (lastAt n) 8 (from w (pendingAt n)) w)
+unfolding blockSize secondAt firstAt knownAt pendingAt lastAt acceptedAt
+last-held {at = at} h lay m e =
+    let v = holds-copied h m (at .last) (at .pending) 8 e (omega arith) (omega arith) in
+    record { long = v .long; same = v .same ∙ rw (lay .last, lay .pending) }
+
 -- what `completed` does: take over, then drop
 pub completed-by : (m : Member) → completed m ≡ dropped (tookOver m)
 unfolding completed dropped tookOver
@@ -59,7 +68,8 @@ first-noted-by n w phase first =
     moved-by n v w phase (w haltAt) (recordWithin n first) (recordOf n (from w (secondAt n)))
     (put-at _ phaseAt phase)
     (rest haltAt (omega arith))
-    (recordOf-same n (from v (firstAt n)) f (λ i h. head (firstAt n + i) (omega arith) ∙ from-pasted-at (firstAt n) (recordSize n) f w i h) ∙ recordOf-words n first)
+    (recordOf-same n (from v (firstAt n)) f (λ i h. head (firstAt n + i) (omega arith) ∙ from-pasted-at (firstAt n) (recordSize n) f w i h)
+    ∙ recordOf-words n first)
     (recordOf-same n (from v (secondAt n)) (from w (secondAt n)) (λ i h.
     head (secondAt n + i) (omega arith) ∙ pasted-off (firstAt n) (recordSize n) f w (secondAt n + i) (omega arith)))
     (λ i h. rest i (omega arith))
@@ -92,7 +102,8 @@ pub own-built : (n i : ℕ) (w : ℕ → ℕ) (newest : Rec) (value : List ℕ) 
     → valueOf (words value) ≡ valueOf (from w (pendingAt n)) → matrixIn known ≡ matrixOf n (from w (knownAt n))
     → let count = w (ownAt + w slotAt - 1) in
     matrixWithin n (matrixIn matrix) ≡ matrixWithin n (joined n i (w slotAt) count (matrixIn known) (newest .matrix))
-    → recordWithin n (recordIn (record { member = i; slot = w slotAt; operation = w operationAt; count = count; value = value; matrix = matrix }))
+    → recordWithin n
+    (recordIn (record { member = i; slot = w slotAt; operation = w operationAt; count = count; value = value; matrix = matrix }))
     ≡ ownRecord n i (memberOf n w) (recordWithin n newest)
 unfolding recordIn recordWithin ownRecord memberOf
 own-built n i w newest value known matrix a b e k f = λ t. record {
@@ -103,7 +114,8 @@ own-built n i w newest value known matrix a b e k f = λ t. record {
   value = (ap (within 8 0) e ∙ value-all (from w (pendingAt n))) t;
   matrix = (f
       ∙ joined-within n i (w slotAt) (w (ownAt + w slotAt - 1)) (matrixIn known) (newest .matrix) (a .least) (a .most) (b .least) (b .most)
-      ∙ ap₂ (λ c m. joined n i (w slotAt) c m (matrixWithin n (newest .matrix))) same (ap (matrixWithin n) k ∙ matrix-all n (from w (knownAt n)))) t;
+      ∙ ap₂ (λ c m. joined n i (w slotAt) c m (matrixWithin n (newest .matrix))) same
+      (ap (matrixWithin n) k ∙ matrix-all n (from w (knownAt n)))) t;
 }
   where
     same : w (ownAt + w slotAt - 1) ≡ rowOf n (from w ownAt) (w slotAt)
@@ -128,18 +140,19 @@ module _ {n i : ℕ} {l : List ℕ} (running : Running n l) (member : Within n i
   replied-passed h = rw (← halted, eq-eqb number 0 h)
 
 -- The record that a commit sends, as the code builds it.
-pub sent-built : (n i : ℕ) (w : ℕ → ℕ) (value : List ℕ) (matrix : List Row) → Within n (w slotAt)
-    → valueOf (words value) ≡ valueOf (from w (firstAt n + valueAt)) → matrixIn matrix ≡ matrixOf n (from w (firstAt n + matrixAt))
-    → recordIn (record { member = i; slot = w slotAt; operation = w operationAt; count = w (ownAt + w slotAt - 1); value = value; matrix = matrix })
+pub sent-built : (n i : ℕ) (w : ℕ → ℕ) (value : List ℕ) (matrix : List Row) {places : Places} → LayoutOf n places → Within n (w slotAt)
+    → valueOf (words value) ≡ valueOf (from w (places .first + valueAt)) → matrixIn matrix ≡ matrixOf n (from w (places .first + matrixAt))
+    → recordIn
+    (record { member = i; slot = w slotAt; operation = w operationAt; count = w (ownAt + w slotAt - 1); value = value; matrix = matrix })
     ≡ sentRecord i (memberOf n w)
 unfolding recordIn sentRecord memberOf
-sent-built n i w value matrix b e f = λ t. record {
+sent-built n i w value matrix lay b e f = λ t. record {
   member = i;
   slot = w slotAt;
   operation = w operationAt;
   count = sym (count-of n w ownAt (w slotAt) (b .least) (b .most)) t;
-  value = (e ∙ sym (ap (λ r. r .value) (recordOf-parts n w (firstAt n)))) t;
-  matrix = (f ∙ sym (ap (λ r. r .matrix) (recordOf-parts n w (firstAt n)))) t;
+  value = ((rw (lay .first) at e) ∙ sym (ap (λ r. r .value) (recordOf-parts n w (firstAt n)))) t;
+  matrix = ((rw (lay .first) at f) ∙ sym (ap (λ r. r .matrix) (recordOf-parts n w (firstAt n)))) t;
 }
 
 -- What taking an outcome hands back.

@@ -22,10 +22,12 @@ use Rattle.laws.proofs.Blocks.{member-back}
 use Rattle.member.specs.Needs.{Block, Running}
 
 -- A call's number that also makes the test of number 10: refused by it, or answered by the grounds behind it.
-pub refused-waiting : {number : ℕ} (a : ℕ) (t : Bool) (b : ℕ) → number ≡ orElse a (cond t 10 0) → (number ≡ 0 → ⊥) → number ≡ orElse a (cond t 10 b)
+pub refused-waiting : {number : ℕ} (a : ℕ) (t : Bool) (b : ℕ) → number ≡ orElse a (cond t 10 0) → (number ≡ 0 → ⊥)
+    → number ≡ orElse a (cond t 10 b)
 refused-waiting a t b e h = number-refuses b e h ∙ regrouped a t 10 b (omega arith)
 
-pub passed-waiting : {number r : ℕ} (a : ℕ) (t : Bool) (b : ℕ) → number ≡ orElse a (cond t 10 0) → number ≡ 0 → r ≡ b → r ≡ orElse a (cond t 10 b)
+pub passed-waiting : {number r : ℕ} (a : ℕ) (t : Bool) (b : ℕ) → number ≡ orElse a (cond t 10 0) → number ≡ 0 → r ≡ b
+    → r ≡ orElse a (cond t 10 b)
 passed-waiting a t b e z h = number-passes e z h ∙ regrouped a t 10 b (omega arith)
 
 neither : (a b : Bool) → (a || b) ≡ false → a ≡ false

@@ -49,7 +49,8 @@ pub row-stored : (m : List Row) (n j a : ℕ) (w : ℕ → ℕ) → n ≤ 12 →
     ≡ pasted a ((j + 1) * n) (matrixWord n (matrixIn m)) w
 row-stored m n j a w h p =
     pasted-join a (j * n) n (matrixWord n (matrixIn m)) (words (getD m j noRow .counts)) w
-    (λ i q. sym (matrixWord-at n (matrixIn m) j i q ∙ ap (λ r. r (i + 1)) (row-at m j (omega arith)) ∙ count-at (getD m j noRow) i (omega arith)))
+    (λ i q. sym
+    (matrixWord-at n (matrixIn m) j i q ∙ ap (λ r. r (i + 1)) (row-at m j (omega arith)) ∙ count-at (getD m j noRow) i (omega arith)))
     ∙ ap (λ k. pasted a k (matrixWord n (matrixIn m)) w) (sym (row-next n j))
 
 -- A record stored part by part: its four numbers, its value, its matrix.
@@ -117,7 +118,8 @@ count-stored i n at g w v u e f = on (ltb i n)
 pub count-loaded : (i n : ℕ) (g v : ℕ → ℕ) (x : ℕ) → v ≡ pasted 0 (min i n) g (λ k. 0) → x ≡ cond (ltb i n) (g i) 0
     → put v i x ≡ pasted 0 (min (i + 1) n) g (λ k. 0)
 count-loaded i n g v x e f = on (ltb i n)
-    (λ p. count-stored i n 0 g (λ k. 0) v (put v i x) e (rw p (ap (put v i) (rw p at f) ∙ ap (λ k. put v k (g i)) (let a : i ≡ 0 + i = omega arith in a))))
+    (λ p. count-stored i n 0 g (λ k. 0) v (put v i x) e
+    (rw p (ap (put v i) (rw p at f) ∙ ap (λ k. put v k (g i)) (let a : i ≡ 0 + i = omega arith in a))))
     (λ p.
     let h = ltb-false i n p in
     let a : min i n ≡ min (i + 1) n = omega arith in

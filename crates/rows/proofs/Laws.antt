@@ -26,7 +26,8 @@ unfolding matrixIn
 row-at m j h = numbered-at 12 zeroRow (λ j. rowIn (getD m j noRow)) j h
 
 -- one count stored
-pub count-set : (r s : Row) (i v : ℕ) → i < 12 → i < length (r .counts) → s .counts ≡ set (r .counts) i v → rowIn s ≡ put (rowIn r) (i + 1) v
+pub count-set : (r s : Row) (i v : ℕ) → i < 12 → i < length (r .counts) → s .counts ≡ set (r .counts) i v
+    → rowIn s ≡ put (rowIn r) (i + 1) v
 unfolding rowIn rowOf
 count-set r s i v h g e =
     ap (λ l. numbered 12 0 (words l)) e
@@ -39,7 +40,8 @@ pub below-more : (a b : Row) (i : ℕ) → i < 12 → below i (rowIn a) (rowIn b
     → below (i + 1) (rowIn a) (rowIn b) ≡ true
 unfolding below
 below-more a b i h p q =
-    each-more i (λ k. leb (rowIn a k) (rowIn b k)) p (rw (count-at a i h, count-at b i h) (le-leb (words (a .counts) i) (words (b .counts) i) q))
+    each-more i (λ k. leb (rowIn a k) (rowIn b k)) p
+    (rw (count-at a i h, count-at b i h) (le-leb (words (a .counts) i) (words (b .counts) i) q))
 
 pub below-fails : (a b : Row) (n i : ℕ) → n ≤ 12 → i < n → words (b .counts) i < words (a .counts) i → below n (rowIn a) (rowIn b) ≡ false
 unfolding below

@@ -1,53 +1,54 @@
--- `take_commit` meets its contract: `returns-2` is an accepted commit's, `returns-3` an aborted one's. Assumes nothing.
+-- `take_commit` meets its contract: its number refuses, or it is 0 and the step's verdict, accepted or aborted, is answered.
 use borrow.Author.Needs.{needs}
-use mathlib.Core.Path.{sym, _∙_}
-use borrow.Author.Tests.{ne-eqb}
+use mathlib.Core.Bool.{Bool, cond, false, true}
+use mathlib.Core.Path.{_∙_, _≡_, sym}
+use Rattle.lists.proofs.Refusals.{stays}
+use Rattle.model.specs.Halves.{commitNumber, commitOutcome, commitWords, hostNumber}
 use Rattle.model.specs.Records.{recordWithin}
-use Rattle.model.specs.Halves.{commitNumber, commitOutcome, commitWords}
 use Rattle.records.specs.Meaning.{recordIn}
-use Rattle.host.proofs.Answers.{good-slot, commit-answers, commit-leaves}
+use Rattle.host.proofs.Answers.{commit-answers, commit-leaves, good-slot}
 use Rattle.host.proofs.take_commit.Statement.{statement}
 use Rattle.host.proofs.take_commit.Tie as tie
+
+abbrev start : tie.After-host-number → tie.Start
+start c = c .before .before .before
+
+taken : (c : tie.Else1) → let a = start (c .before) .args in let r = a .committed in
+    hostNumber (a .n) (a .entries .now) (r .member) (r .slot) (r .operation) ≡ 0
+taken c = sym (c .before .host-number .ensures) ∙ c .if1 .left
+
+abbrev passed : tie.After-commit → tie.Else1
+passed c = c .before .before
+
+judged : (c : tie.After-commit) (won : Bool) → c .commit .result ≡ won →
+    let a = start (passed c .before) .args in
+    let r = recordWithin (a .n) (recordIn (a .committed)) in
+    (0 ≡ commitNumber (a .n) (a .entries .now) r)
+    × ((cond won 1 2 ≡ commitOutcome (a .n) (a .entries .now) r) × (c .commit .last .0 ≡ commitWords (a .n) (a .entries .now) r))
+unfolding commitNumber recordWithin recordIn
+judged c won e =
+    let a = start (passed c .before) .args in
+    let r = recordIn (a .committed) in
+    let z = taken (passed c) in
+    let post = c .commit .ensures in
+    let left = commit-leaves (a .n) (a .entries .now) _ (c .commit .kept .0) (recordWithin (a .n) r) z (post .1 .0) (post .1 .1) in
+    (sym z, (commit-answers (a .n) (a .entries .now) r won z (sym (post .0) ∙ e), left))
 
 returns : tie.Need-returns
 unfolding commitNumber commitOutcome commitWords recordWithin recordIn
 returns c =
-    let refused = ne-eqb (c .before .host-number .result) 0 (c .if1 .taken) in
-    (c .before .host-number .ensures, (rw (← c .before .host-number .ensures, refused), rw (← c .before .host-number .ensures, refused)))
+    let e = c .before .host-number .ensures in
+    let ne = c .if1 .taken in
+    (e, (stays 0 _ e ne, stays _ _ e ne))
 
 commit-requires : tie.Need-commit-requires
-commit-requires c κs =
-    let a = c .before .before .before .before .before .args in
-    let r = a .committed in
-    good-slot (a .n) (a .entries .now) (r .member) (r .slot) (r .operation) (sym (c .before .before .host-number .ensures) ∙ c .before .if1 .left)
+commit-requires c κs = good-slot _ _ _ _ _ (taken (c .before))
 
 returns-2 : tie.Need-returns-2
-unfolding commitNumber recordWithin recordIn
-returns-2 c =
-    let a = c .before .before .before .before .before .before .before .before .before .args in
-    let r = recordIn (a .committed) in
-    let s = c .before .before .before .commit in
-    let zero = sym (c .before .before .before .before .before .before .host-number .ensures) ∙ c .before .before .before .before .before .if1 .left in (
-      sym zero,
-      (
-        commit-answers (a .n) (a .entries .now) r _ zero (sym (s .ensures .0) ∙ c .if2 .taken),
-        commit-leaves (a .n) (a .entries .now) (s .last .0) (s .kept .0) (recordWithin (a .n) r) zero (s .ensures .1 .0) (s .ensures .1 .1),
-      ),
-    )
+returns-2 c = judged (c .before .before .before) true (c .if2 .taken)
 
 returns-3 : tie.Need-returns-3
-unfolding commitNumber recordWithin recordIn
-returns-3 c =
-    let a = c .before .before .before .before .before .before .before .before .before .args in
-    let r = recordIn (a .committed) in
-    let s = c .before .before .before .commit in
-    let zero = sym (c .before .before .before .before .before .before .host-number .ensures) ∙ c .before .before .before .before .before .if1 .left in (
-      sym zero,
-      (
-        commit-answers (a .n) (a .entries .now) r _ zero (sym (s .ensures .0) ∙ c .if2 .left),
-        commit-leaves (a .n) (a .entries .now) (s .last .0) (s .kept .0) (recordWithin (a .n) r) zero (s .ensures .1 .0) (s .ensures .1 .1),
-      ),
-    )
+returns-3 c = judged (c .before .before .before) false (c .if2 .left)
 
 pub take-commit-spec : {M : Type 1} → statement M
 take-commit-spec =

@@ -19,20 +19,28 @@ Inv-loop n a b last j₀ j = (j ≤ last) × ((last ≡ min n 12) × (each j (λ
 abbrev μ-loop : tie.MeasureT-loop
 μ-loop n a b last j₀ j = last - j
 
+abbrev start : tie.At-loop Inv-loop μ-loop → tie.Start Inv-loop μ-loop
+start c = c .before .before
+
+abbrev at-loop : tie.After-below Inv-loop μ-loop → tie.At-loop Inv-loop μ-loop
+at-loop c = c .before .before .before .before
+
 loop-holds : tie.Need-loop-holds Inv-loop μ-loop
 loop-holds c = (search needs, (omega arith, each-none _))
 
 returns : tie.Need-returns Inv-loop μ-loop
 returns c =
-    let a = c .before .before .before .before .before .before .before .args in
-    let l = c .before .before .before .before .before .loop in
+    let loop = at-loop (c .before) in
+    let a = start loop .args in
+    let l = loop .loop in
     sym (rows-below-fails (a .t1) (a .t2) (min (a .n) 12) (l .j) (omega arith) (omega arith)
     (sym (c .before .below .ensures) ∙ not-true _ (c .if1 .taken)))
 
 loop-again : tie.Need-loop-again Inv-loop μ-loop
 loop-again c =
-    let a = c .before .before .before .before .before .before .before .args in
-    let l = c .before .before .before .before .before .loop in (
+    let loop = at-loop (c .before) in
+    let a = start loop .args in
+    let l = loop .loop in (
       search needs,
       (
         search needs,

@@ -22,7 +22,8 @@ use Rattle.checks.proofs.steps.check_22.Tie as tie
 abbrev test : ℕ → Row → Row → ℕ → Bool
 test i a b k = eqb k i || leb (rowIn a k) (rowIn b k)
 
-tested : (i : ℕ) (a b : Row) (k : ℕ) → k < 12 → {r : Bool} → r ≡ (eqb (k + 1) i || leb (words (a .counts) k) (words (b .counts) k)) → r ≡ test i a b (k + 1)
+tested : (i : ℕ) (a b : Row) (k : ℕ) → k < 12 → {r : Bool} → r ≡ (eqb (k + 1) i || leb (words (a .counts) k) (words (b .counts) k))
+    → r ≡ test i a b (k + 1)
 tested i a b k h e = rw (count-at a k h, count-at b k h) e
 
 by-rows : (known newest : List Row) (n i r : ℕ) → 1 ≤ r → r ≤ 12
@@ -36,29 +37,41 @@ Inv-loop n member slot at a b k₀ k = (k ≤ n) × (each k (test member a b) �
 abbrev μ-loop : tie.MeasureT-loop
 μ-loop n member slot at a b k₀ k = n - k
 
+abbrev start : tie.At-loop Inv-loop μ-loop → tie.Start Inv-loop μ-loop
+start c = c .before .before .before
+
+abbrev at-loop : tie.After-not-above Inv-loop μ-loop → tie.At-loop Inv-loop μ-loop
+at-loop c = c .before .before .before .before
+
 loop-holds : tie.Need-loop-holds Inv-loop μ-loop
 loop-holds c = (search needs, each-none _)
 
 returns : tie.Need-returns Inv-loop μ-loop
 returns c =
-    let g = (c .before .before .before .before .before .before .before .before .args) in
-    let l = (c .before .before .before .before .before .loop) in
+    let loop = at-loop (c .before) in
+    let g = (start loop .args) in
+    let l = (loop .loop) in
     let a : Row = getD (g .t1) (g .slot - 1) noRow in
     let b : Row = getD (g .t2) (g .slot - 1) noRow in
-    stops (g .n) (test (g .member) a b) (l .k) (omega arith) (tested (g .member) a b (l .k) (omega arith) (c .before .not-above .ensures)) (c .if1 .taken)
+    stops (g .n) (test (g .member) a b) (l .k) (omega arith) (tested (g .member) a b (l .k) (omega arith) (c .before .not-above .ensures))
+    (c .if1 .taken)
     ∙ by-rows (g .t1) (g .t2) (g .n) (g .member) (g .slot) (omega arith) (omega arith)
 
 loop-again : tie.Need-loop-again Inv-loop μ-loop
 loop-again c =
-    let g = (c .before .before .before .before .before .before .before .before .args) in
-    let l = (c .before .before .before .before .before .loop) in
+    let loop = at-loop (c .before) in
+    let g = (start loop .args) in
+    let l = (loop .loop) in
     let a : Row = getD (g .t1) (g .slot - 1) noRow in
-    let b : Row = getD (g .t2) (g .slot - 1) noRow in
-    (search needs, goes-on (g .n) (test (g .member) a b) (l .k) (l .inv .1) (tested (g .member) a b (l .k) (omega arith) (c .before .not-above .ensures)) (c .if1 .left))
+    let b : Row = getD (g .t2) (g .slot - 1) noRow in (
+      search needs,
+      goes-on (g .n) (test (g .member) a b) (l .k) (l .inv .1)
+          (tested (g .member) a b (l .k) (omega arith) (c .before .not-above .ensures)) (c .if1 .left),
+    )
 
 returns-2 : tie.Need-returns-2 Inv-loop μ-loop
 returns-2 c =
-    let g = (c .before .before .before .before .args) in
+    let g = (start (c .before) .args) in
     let l = (c .before .loop) in
     ends (g .n) (test (g .member) (getD (g .t1) (g .slot - 1) noRow) (getD (g .t2) (g .slot - 1) noRow)) (l .k) (omega arith) (l .inv .1)
     ∙ by-rows (g .t1) (g .t2) (g .n) (g .member) (g .slot) (omega arith) (omega arith)

@@ -18,7 +18,8 @@ unfolding check25
 returns c =
     let a = (c .before .before .args) in
     let m : min (a .n) 12 ≡ a .n = omega arith in
-    let e : matrixBelow (a .n) (matrixIn (a .t1)) (matrixIn (a .t2)) ≡ false = rw m at (refused (c .before .matrix-below .ensures) (c .if1 .taken)) in
+    let e : matrixBelow (a .n) (matrixIn (a .t1)) (matrixIn (a .t2)) ≡ false = rw m at
+    (refused (c .before .matrix-below .ensures) (c .if1 .taken)) in
     rw e
 
 returns-2 : tie.Need-returns-2
@@ -26,7 +27,8 @@ unfolding check25
 returns-2 c =
     let a = (c .before .before .before .before .before .before .args) in
     let m : min (a .n) 12 ≡ a .n = omega arith in
-    let e : matrixBelow (a .n) (matrixIn (a .t1)) (matrixIn (a .t2)) ≡ true = rw m at (allowed (c .before .before .before .before .before .matrix-below .ensures) (c .before .before .before .before .if1 .left)) in
+    let e : matrixBelow (a .n) (matrixIn (a .t1)) (matrixIn (a .t2)) ≡ true = rw m at
+    (allowed (c .before .before .before .before .before .matrix-below .ensures) (c .before .before .before .before .if1 .left)) in
     rw (
       e,
       row-of (a .t1) (a .slot) (omega arith) (omega arith),

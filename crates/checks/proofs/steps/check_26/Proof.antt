@@ -34,21 +34,29 @@ Inv-loop n slot known newest j₀ j = (j ≤ n) × (each j (test n slot known ne
 abbrev μ-loop : tie.MeasureT-loop
 μ-loop n slot known newest j₀ j = n - j
 
+abbrev start : tie.At-loop Inv-loop μ-loop → tie.Start Inv-loop μ-loop
+start c = c .before
+
+abbrev at-loop : tie.After-in-order Inv-loop μ-loop → tie.At-loop Inv-loop μ-loop
+at-loop c = c .before .before .before .before
+
 loop-holds : tie.Need-loop-holds Inv-loop μ-loop
 loop-holds c = (search needs, each-none _)
 
 returns : tie.Need-returns Inv-loop μ-loop
 unfolding check26
 returns c =
-    let g = (c .before .before .before .before .before .before .args) in
-    let l = (c .before .before .before .before .before .loop) in
+    let loop = at-loop (c .before) in
+    let g = (start loop .args) in
+    let l = (loop .loop) in
     stops (g .n) (test (g .n) (g .slot) (g .t1) (g .t2)) (l .j) (omega arith)
     (tested (g .n) (g .slot) (g .t1) (g .t2) (l .j) (omega arith) (omega arith) (c .before .in-order .ensures)) (c .if1 .taken)
 
 loop-again : tie.Need-loop-again Inv-loop μ-loop
 loop-again c =
-    let g = (c .before .before .before .before .before .before .args) in
-    let l = (c .before .before .before .before .before .loop) in (
+    let loop = at-loop (c .before) in
+    let g = (start loop .args) in
+    let l = (loop .loop) in (
       search needs,
       goes-on (g .n) (test (g .n) (g .slot) (g .t1) (g .t2)) (l .j) (l .inv .1)
           (tested (g .n) (g .slot) (g .t1) (g .t2) (l .j) (omega arith) (omega arith) (c .before .in-order .ensures)) (c .if1 .left),

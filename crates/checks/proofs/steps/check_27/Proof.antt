@@ -33,24 +33,37 @@ Inv-loop n member slot accepted newest at j₀ j = (j ≤ n) × (each j (test me
 abbrev μ-loop : tie.MeasureT-loop
 μ-loop n member slot accepted newest at j₀ j = n - j
 
+abbrev start : tie.At-loop Inv-loop μ-loop → tie.Start Inv-loop μ-loop
+start c = c .before
+
+abbrev at-loop : tie.In-loop Inv-loop μ-loop → tie.At-loop Inv-loop μ-loop
+at-loop c = c .before
+
+abbrev at-in-loop : tie.After-not-above Inv-loop μ-loop → tie.In-loop Inv-loop μ-loop
+at-in-loop c = c .before .before .before .before
+
 loop-holds : tie.Need-loop-holds Inv-loop μ-loop
 loop-holds c = (search needs, each-none _)
 
 returns : tie.Need-returns Inv-loop μ-loop
 unfolding check27
 returns c =
-    let g = (c .before .before .before .before .before .before .before .args) in
-    let l = (c .before .before .before .before .before .before .loop) in
+    let loop = at-loop (at-in-loop (c .before)) in
+    let g = (start loop .args) in
+    let l = (loop .loop) in
     stops (g .n) (test (g .member) (g .slot) (g .t1) (g .t2)) (l .j) (omega arith)
-    (tested (g .member) (g .slot) (g .t1) (g .t2) (l .j) (omega arith) (omega arith) (omega arith) (c .before .not-above .ensures)) (c .if1 .taken)
+    (tested (g .member) (g .slot) (g .t1) (g .t2) (l .j) (omega arith) (omega arith) (omega arith) (c .before .not-above .ensures))
+    (c .if1 .taken)
 
 loop-again : tie.Need-loop-again Inv-loop μ-loop
 loop-again c =
-    let g = (c .before .before .before .before .before .before .before .args) in
-    let l = (c .before .before .before .before .before .before .loop) in (
+    let loop = at-loop (at-in-loop (c .before)) in
+    let g = (start loop .args) in
+    let l = (loop .loop) in (
       search needs,
       goes-on (g .n) (test (g .member) (g .slot) (g .t1) (g .t2)) (l .j) (l .inv .1)
-          (tested (g .member) (g .slot) (g .t1) (g .t2) (l .j) (omega arith) (omega arith) (omega arith) (c .before .not-above .ensures)) (c .if1 .left),
+          (tested (g .member) (g .slot) (g .t1) (g .t2) (l .j) (omega arith) (omega arith) (omega arith) (c .before .not-above .ensures))
+          (c .if1 .left),
     )
 
 returns-2 : tie.Need-returns-2 Inv-loop μ-loop

@@ -27,13 +27,20 @@ Inv-loop n member slot count known newest matrix₀ j₀ matrix j =
 abbrev μ-loop : tie.MeasureT-loop
 μ-loop n member slot count known newest matrix₀ j₀ matrix j = n - j
 
+abbrev start : tie.At-loop Inv-loop μ-loop → tie.Start Inv-loop μ-loop
+start c = c .before
+
+abbrev at-loop : tie.In-loop Inv-loop μ-loop → tie.At-loop Inv-loop μ-loop
+at-loop c = c .before
+
 loop-holds : tie.Need-loop-holds Inv-loop μ-loop
 loop-holds c = (search needs, (refl, zero-rows ∙ sym (pasted-none 0 _ _)))
 
 loop-again : tie.Need-loop-again Inv-loop μ-loop
 loop-again c =
-    let a = (c .before .before .before .before .before .args) in
-    let l = (c .before .before .before .before .loop) in
+    let loop = at-loop (c .before .before .before) in
+    let a = (start loop .args) in
+    let l = (loop .loop) in
     let m : min (a .n) 12 ≡ a .n = omega arith in (
       search needs,
       (
@@ -46,7 +53,7 @@ loop-again c =
 
 returns : tie.Need-returns Inv-loop μ-loop
 returns c =
-    let a = (c .before .before .before .before .args) in
+    let a = (start (c .before .before .before) .args) in
     let l = (c .before .before .before .loop) in
     let e : l .j ≡ a .n = omega arith in
     joined-rows (l .matrix) (c .with .result) (a .n) (a .member) (a .slot) (a .count) (matrixIn (a .t1)) (matrixIn (a .t2))

@@ -1,12 +1,12 @@
--- `accept` meets its contract: `returns` is a write's, `returns-2` a read's. Assumes nothing.
+-- `accept` meets its contract: the mark cleared and the record stored as the newest; a write is then copied to the stored record.
 use borrow.Author.Needs.{needs}
-use mathlib.Core.Path.{_∙_}
 use native.Mathlib.Omega.{arith}
-use lib.ListN.{length-set}
+use mathlib.Core.Path.{_∙_, _≡_}
+use lib.ListN.{length, length-set}
 use borrow.Author.Tests.{eq-eqb, ne-eqb}
 use Rattle.model.specs.Kinds.{becomesStored}
 use Rattle.records.specs.Meaning.{recordIn}
-use Rattle.host.proofs.EntryWords.{sizes, entry-accepted, stored-accepted, entry-accepted-write, stored-accepted-write}
+use Rattle.host.proofs.EntryWords.{entry-accepted, entry-accepted-write, sizes, stored-accepted, stored-accepted-write}
 use Rattle.host.proofs.entry.accept.Statement.{statement}
 use Rattle.host.proofs.entry.accept.Tie as tie
 
@@ -26,45 +26,66 @@ store-record-requires c κs =
     let p = c .before .newest-at .ensures in
     (omega arith, simp length-set (omega arith))
 
+abbrev stores : tie.Then1 → tie.After-store-record
+stores c = let known = c .before .before in known .before .before
+
+same : (c : tie.After-store-record) → length (c .store-record .last .0) ≡ length (c .before .before .before .before .args .entry .now)
+same c = simp length-set at (c .store-record .kept .0)
+
 copy-down-requires : tie.Need-copy-down-requires
 copy-down-requires c κs =
-    let s = sizes (c .before .before .before .before .before .before .before .before .before .before .args .n) in
-    let p = c .before .before .before .before .before .before .before .before .newest-at .ensures in
+    let stored = stores (c .before .before) in
+    let placed = stored .before .before in
+    let start = placed .before .before in
+    let s = sizes (start .args .n) in
+    let p = placed .newest-at .ensures in
     let q = c .record-size .ensures in
-    let long = c .before .before .before .before .before .before .before .before .before .before .pre .long in
-    (omega arith, omega (arith, simp length-set at (c .before .before .before .before .before .before .store-record .kept .0)))
+    let long = start .pre .long in
+    (omega arith, omega (arith, same stored))
 
 same-length : tie.Need-same-length
-same-length c = c .before .before .copy-down .kept .0 ∙ (simp length-set at (c .before .before .before .before .before .before .before .before .before .store-record .kept .0))
+same-length c = let sized = c .before .before .before in c .before .before .copy-down .kept .0 ∙ same (stores (sized .before .before))
 
 returns : tie.Need-returns
 unfolding becomesStored recordIn
 returns c =
-    let a = c .before .before .before .before .before .before .before .before .before .before .before .before .before .args in
-    let r = recordIn (a .committed) in
-    let long = c .before .before .before .before .before .before .before .before .before .before .before .before .before .pre .long in
+    let sized = c .before .before .before in
+    let writes = sized .before .before in
+    let known = writes .before .before in
+    let stored = known .before .before in
+    let placed = stored .before .before in
+    let s = placed .before .before in
+    let a = s .args in
     rw (
       c .before .before .copy-down .ensures,
-      c .before .before .before .before .before .before .before .before .before .store-record .ensures,
-      c .before .before .before .before .before .before .before .before .before .before .before .newest-at .ensures,
-      c .before .before .before .record-size .ensures,
-      eq-eqb (a .committed .operation) 2 (c .before .before .before .before .before .if1 .taken),
-    ) (entry-accepted-write (a .n) (a .entry .now) r long, stored-accepted-write (a .n) (a .entry .now) r long)
+      stored .store-record .ensures,
+      placed .newest-at .ensures,
+      sized .record-size .ensures,
+      eq-eqb (a .committed .operation) 2 (writes .if1 .taken),
+    ) (
+      entry-accepted-write (a .n) (a .entry .now) (recordIn (a .committed)) (s .pre .long),
+      stored-accepted-write (a .n) (a .entry .now) (recordIn (a .committed)) (s .pre .long),
+    )
 
 same-length-2 : tie.Need-same-length-2
-same-length-2 c = simp length-set at (c .before .before .before .before .store-record .kept .0)
+same-length-2 c = let known = c .before .before in same (known .before .before)
 
 returns-2 : tie.Need-returns-2
 unfolding becomesStored recordIn
 returns-2 c =
-    let a = c .before .before .before .before .before .before .before .before .args in
-    let r = recordIn (a .committed) in
-    let long = c .before .before .before .before .before .before .before .before .pre .long in
+    let known = c .before .before in
+    let stored = known .before .before in
+    let placed = stored .before .before in
+    let s = placed .before .before in
+    let a = s .args in
     rw (
-      c .before .before .before .before .store-record .ensures,
-      c .before .before .before .before .before .before .newest-at .ensures,
+      stored .store-record .ensures,
+      placed .newest-at .ensures,
       ne-eqb (a .committed .operation) 2 (c .if1 .left),
-    ) (entry-accepted (a .n) (a .entry .now) r long, stored-accepted (a .n) (a .entry .now) r long)
+    ) (
+      entry-accepted (a .n) (a .entry .now) (recordIn (a .committed)) (s .pre .long),
+      stored-accepted (a .n) (a .entry .now) (recordIn (a .committed)) (s .pre .long),
+    )
 
 pub accept-spec : {M : Type 1} → statement M
 accept-spec =

@@ -1,13 +1,19 @@
--- `commit_entry` meets its contract. Assumes nothing.
+-- `commit_entry` meets its contract: another member's or another count's mark aborts the commit, and the same mark accepts it.
 use borrow.Author.Needs.{needs}
-use mathlib.Core.Path.{sym, _∙_}
 use native.Mathlib.Omega.{arith}
+use mathlib.Core.Path.{_∙_, sym}
 use Rattle.lists.specs.Parts.{words}
-use Rattle.model.specs.Table.{entryOf, storedOf}
+use Rattle.model.specs.Table.{storedOf}
 use Rattle.records.specs.Meaning.{recordIn}
-use Rattle.host.proofs.EntryWords.{sizes, other-member, other-count, same-mark, entry-lost, stored-lost, entry-won, stored-won}
+use Rattle.host.proofs.EntryWords.{entry-lost, entry-won, other-count, other-member, same-mark, sizes, stored-lost, stored-won}
 use Rattle.host.proofs.entry.commit_entry.Statement.{statement}
 use Rattle.host.proofs.entry.commit_entry.Tie as tie
+
+abbrev start : tie.Else1 → tie.Start
+start c = let read = c .before .before in read .before .before
+
+abbrev at-else1 : tie.Else2 → tie.Else1
+at-else1 c = c .before .before .before
 
 slice-read-if1 : tie.Need-slice-read-if1
 slice-read-if1 c =
@@ -17,37 +23,35 @@ slice-read-if1 c =
 returns : tie.Need-returns
 unfolding recordIn
 returns c =
-    let a = c .before .before .before .before .args in
-    let r = recordIn (a .committed) in
-    let e = entryOf (a .n) (words (a .entry .now)) in
+    let read = c .before .before in
+    let a = read .before .before .args in
+    let lost = other-member (a .n) (a .entry .now) (recordIn (a .committed)) (c .if1 .taken) in
     let s = storedOf (a .n) (words (a .entry .now)) in
-    let lost = other-member (a .n) (a .entry .now) r (c .if1 .taken) in
-    (sym lost, (sym (entry-lost (a .n) e s r lost), sym (stored-lost (a .n) e s r lost)))
+    (sym lost, (sym (entry-lost (a .n) _ s _ lost), sym (stored-lost (a .n) _ s _ lost)))
 
 slice-read-if2 : tie.Need-slice-read-if2
 slice-read-if2 c =
-    let s = sizes (c .before .before .before .before .before .args .n) in
+    let s = sizes (start (c .before) .args .n) in
     omega arith
 
 returns-2 : tie.Need-returns-2
 unfolding recordIn
 returns-2 c =
-    let a = c .before .before .before .before .before .before .before .args in
-    let r = recordIn (a .committed) in
-    let e = entryOf (a .n) (words (a .entry .now)) in
+    let a = start (c .before .before .before) .args in
+    let lost = other-count (a .n) (a .entry .now) (recordIn (a .committed)) (c .if2 .taken) in
     let s = storedOf (a .n) (words (a .entry .now)) in
-    let lost = other-count (a .n) (a .entry .now) r (c .if2 .taken) in
-    (sym lost, (sym (entry-lost (a .n) e s r lost), sym (stored-lost (a .n) e s r lost)))
+    (sym lost, (sym (entry-lost (a .n) _ s _ lost), sym (stored-lost (a .n) _ s _ lost)))
 
 returns-3 : tie.Need-returns-3
 unfolding recordIn
 returns-3 c =
-    let a = c .before .before .before .before .before .before .before .before .before .before .before .args in
-    let r = recordIn (a .committed) in
-    let e = entryOf (a .n) (words (a .entry .now)) in
+    let accepts = c .before .before in
+    let left = accepts .before .before in
+    let a = start (at-else1 left) .args in
+    let won = same-mark (a .n) (a .entry .now) (recordIn (a .committed)) (at-else1 left .if1 .left) (left .if2 .left) in
+    let post = accepts .accept .ensures in
     let s = storedOf (a .n) (words (a .entry .now)) in
-    let won = same-mark (a .n) (a .entry .now) r (c .before .before .before .before .before .before .before .if1 .left) (c .before .before .before .before .if2 .left) in
-    (sym won, (c .before .before .accept .ensures .0 ∙ sym (entry-won (a .n) e s r won), c .before .before .accept .ensures .1 ∙ sym (stored-won (a .n) e s r won)))
+    (sym won, (post .0 ∙ sym (entry-won (a .n) _ s _ won), post .1 ∙ sym (stored-won (a .n) _ s _ won)))
 
 pub commit-entry-spec : {M : Type 1} → statement M
 commit-entry-spec =

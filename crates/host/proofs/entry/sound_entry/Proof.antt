@@ -18,6 +18,12 @@ use Rattle.host.proofs.entry.sound_entry.Tie as tie
 abbrev stored-sound : ℕ → List ℕ → Bool
 stored-sound n entry = soundRecord n (recordOf n (from (words entry) storedAt))
 
+abbrev start : tie.After-newest-at → tie.Start
+start c = c .before .before
+
+abbrev at-newest-at : tie.Else1 → tie.After-newest-at
+at-newest-at c = c .before .before
+
 shared-slice-read-if1 : tie.Need-shared-slice-read-if1
 shared-slice-read-if1 c =
     let s = sizes (c .before .before .before .args .n) in
@@ -25,33 +31,37 @@ shared-slice-read-if1 c =
 
 returns : tie.Need-returns
 unfolding soundEntry entryOf storedOf
-returns c = rw (lt-leb (words (c .before .before .before .before .args .entry .now) 0) (c .before .before .before .before .args .n) (c .if1 .taken))
+returns c =
+    let s = start (c .before .before) in
+    rw (lt-leb (words (s .args .entry .now) 0) (s .args .n) (c .if1 .taken))
 
 sound-record-requires : tie.Need-sound-record-requires
 sound-record-requires c κs =
-    let s = sizes (c .before .before .before .before .args .n) in
+    let s = sizes (start (at-newest-at c) .args .n) in
     omega arith
 
 returns-2 : tie.Need-returns-2
 unfolding soundEntry entryOf storedOf
 returns-2 c =
-    let a = c .before .before .before .before .before .before .args in
+    let a = start (at-newest-at (c .before .before)) .args in
     let bad : stored-sound (a .n) (a .entry .now) ≡ false = refused (c .before .sound-record .ensures) (c .if2 .taken) in
     rw (le-leb (words (a .entry .now) 0) (a .n) (c .before .before .if1 .left), bad)
 
 sound-record-requires-2 : tie.Need-sound-record-requires-2
 sound-record-requires-2 c κs =
-    let s = sizes (c .before .before .before .before .before .before .args .n) in
-    let p = c .before .before .before .before .newest-at .ensures in
+    let newest-at = at-newest-at (c .before .before) in
+    let s = sizes (start newest-at .args .n) in
+    let p = newest-at .newest-at .ensures in
     omega arith
 
 returns-3 : tie.Need-returns-3
 unfolding soundEntry entryOf storedOf
 returns-3 c =
-    let a = c .before .before .before .before .before .before .before .args in
+    let newest-at = at-newest-at (c .before .before .before) in
+    let a = start newest-at .args in
     let good : stored-sound (a .n) (a .entry .now) ≡ true = allowed (c .before .before .sound-record .ensures) (c .before .if2 .left) in
     rw (le-leb (words (a .entry .now) 0) (a .n) (c .before .before .before .if1 .left), good)
-    (rw (c .before .before .before .before .before .newest-at .ensures) at (c .sound-record2 .ensures))
+    (rw (newest-at .newest-at .ensures) at (c .sound-record2 .ensures))
 
 pub sound-entry-spec : {M : Type 1} → statement M
 sound-entry-spec =

@@ -10,7 +10,8 @@ use Rattle.host.proofs.steps.host_size.Tie as tie
 mul-result : tie.Need-mul-result
 unfolding hostSize
 mul-result c =
-    let h : c .before .args .n * c .entry-size .result ≤ 3768 = rw (c .entry-size .ensures) (host-small (c .before .args .n) (c .before .pre)) in
+    let h : c .before .args .n * c .entry-size .result ≤ 3768 = rw (c .entry-size .ensures)
+    (host-small (c .before .args .n) (c .before .pre)) in
     omega arith
 
 returns : tie.Need-returns

@@ -1,18 +1,18 @@
--- `open` meets its contract: the entries passed are as at first. Assumes nothing.
+-- `open` meets its contract: the entries passed are as at first, and each turn lends one more and opens it.
 use borrow.Author.Needs.{needs}
-use Prim.Native.Nat.{ℕ, _+_, _-_, _≤_, _<_}
+use Prim.Native.Nat.{_+_, _-_, _<_, _≤_, ℕ}
 use native.Mathlib.Omega.{arith}
-use mathlib.Core.Path.{_≡_, sym, ap, _∙_}
 use mathlib.Core.List.{List}
+use mathlib.Core.Path.{_∙_, _≡_, ap, sym}
 use lib.ListN.{length}
 use Rattle.lists.specs.Functions.{put}
 use Rattle.lists.specs.Parts.{words}
+use Rattle.model.specs.Board.{noEntry, opened, openingEntry}
 use Rattle.model.specs.Records.{opening, zeroRecord}
-use Rattle.model.specs.Board.{noEntry, openingEntry, opened}
-use Rattle.model.specs.Table.{entrySize, hostSize, entryOf, storedOf, hostOf, storedRecordsOf}
+use Rattle.model.specs.Table.{entryOf, entrySize, hostOf, hostSize, storedOf, storedRecordsOf}
 use Rattle.host.specs.Needs.{Slot}
-use Rattle.host.proofs.Lent.{lent, lent-entry, length-back, host-changed, stored-changed}
-use Rattle.host.proofs.Slots.{Agree, agree-none, agree-more, agree-all}
+use Rattle.host.proofs.Lent.{Lent, host-changed, length-back, lent, lent-entry, stored-changed}
+use Rattle.host.proofs.Slots.{Agree, agree-all, agree-more, agree-none}
 use Rattle.host.proofs.steps.open.Statement.{statement}
 use Rattle.host.proofs.steps.open.Tie as tie
 
@@ -32,43 +32,50 @@ abbrev μ-loop : tie.MeasureT-loop
 loop-holds : tie.Need-loop-holds Inv-loop μ-loop
 loop-holds c = (search needs, (c .before .before .pre .long, (agree-none _ _, agree-none _ _)))
 
+abbrev start : tie.At-loop Inv-loop μ-loop → tie.Start Inv-loop μ-loop
+start c = c .before .before .before
+
+entry : (c : tie.After-entry-place Inv-loop μ-loop) → let at = c .before .before in
+    Lent (start at .args .n) (at .loop .done + 1) (at .loop .entries) (c .entry-place .result) (at .before .entry-size .result)
+entry c =
+    let at = c .before .before in
+    lent (slot (start at .pre .most) (at .loop .inv .1 .0) (c .before .loop-test .taken)) (c .entry-place .ensures)
+    (at .before .entry-size .ensures)
+
 open-entry-requires : tie.Need-open-entry-requires Inv-loop μ-loop
-open-entry-requires c κs =
-    let l = c .before .before .before .loop in
-    lent-entry (lent (slot (c .before .before .before .before .before .before .pre .most) (l .inv .1 .0) (c .before .before .loop-test .taken))
-    (c .before .entry-place .ensures)
-    (c .before .before .before .before .entry-size .ensures))
+open-entry-requires c κs = lent-entry (entry (c .before))
 
 loop-again : tie.Need-loop-again Inv-loop μ-loop
 loop-again c =
-    let a = c .before .before .before .before .before .before .before .before .before .args in
-    let l = c .before .before .before .before .before .before .loop in
-    let h =
-    lent (slot (c .before .before .before .before .before .before .before .before .before .pre .most) (l .inv .1 .0) (c .before .before .before .before .before .loop-test .taken))
-    (c .before .before .before .before .entry-place .ensures)
-    (c .before .before .before .before .before .before .before .entry-size .ensures) in
-    let p = c .before .before .open-entry .last .0 in
-    let k = c .before .before .open-entry .kept .0 in
-    let host = host-changed h p k ∙ ap (put (hostOf (a .n) (words (l .entries))) (l .done + 1)) (c .before .before .open-entry .ensures .0) in
-    let stored = stored-changed h p k ∙ ap (put (storedRecordsOf (a .n) (words (l .entries))) (l .done + 1)) (c .before .before .open-entry .ensures .1) in (
+    let opens = c .before .before in
+    let placed = opens .before .before in
+    let at = placed .before .before in
+    let n = start at .args .n in
+    let l = at .loop in
+    let h = entry placed in
+    let p = opens .open-entry .last .0 in
+    let k = opens .open-entry .kept .0 in
+    let post = opens .open-entry .ensures in
+    let host = host-changed h p k ∙ ap (put (hostOf n (words (l .entries))) (l .done + 1)) (post .0) in
+    let stored = stored-changed h p k ∙ ap (put (storedRecordsOf n (words (l .entries))) (l .done + 1)) (post .1) in (
       search needs,
       (
         length-back h p k,
         (
-          rw host (agree-more (l .done) (hostOf (a .n) (words (l .entries))) openingEntry (l .inv .1 .1 .0)),
-          rw stored (agree-more (l .done) (storedRecordsOf (a .n) (words (l .entries))) opening (l .inv .1 .1 .1)),
+          rw host (agree-more (l .done) (hostOf n (words (l .entries))) openingEntry (l .inv .1 .1 .0)),
+          rw stored (agree-more (l .done) (storedRecordsOf n (words (l .entries))) opening (l .inv .1 .1 .1)),
         ),
       ),
     )
 
 same-length : tie.Need-same-length Inv-loop μ-loop
-same-length c = c .before .loop .inv .1 .0 ∙ sym (c .before .before .before .before .pre .long)
+same-length c = c .before .loop .inv .1 .0 ∙ sym (start (c .before) .pre .long)
 
 returns : tie.Need-returns Inv-loop μ-loop
 unfolding opened hostOf storedRecordsOf
 returns c =
     let l = c .before .loop in
-    let n = c .before .before .before .before .args .n in
+    let n = start (c .before) .args .n in
     let e : l .done ≡ n = omega arith in (
       agree-all n noEntry (entrySize n) (entryOf n) (words (l .entries)) openingEntry (rw e at (l .inv .1 .1 .0)),
       agree-all n zeroRecord (entrySize n) (storedOf n) (words (l .entries)) opening (rw e at (l .inv .1 .1 .1)),

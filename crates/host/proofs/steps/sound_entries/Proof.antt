@@ -1,16 +1,16 @@
--- `sound_entries` meets its contract: each entry passed is sound. Assumes nothing.
+-- `sound_entries` meets its contract: the entries before this one passed; this one is lent, and stops the loop or is one more that passed.
 use borrow.Author.Needs.{needs}
-use Prim.Native.Nat.{ℕ, _+_, _-_, _≤_, _<_}
+use Prim.Native.Nat.{_+_, _-_, _<_, _≤_, ℕ}
 use native.Mathlib.Omega.{arith}
-use mathlib.Core.Path.{_≡_, sym, _∙_}
 use mathlib.Core.Bool.{true}
 use mathlib.Core.List.{List}
-use borrow.Author.Tests.{not-true, not-false}
+use mathlib.Core.Path.{_∙_, _≡_}
 use Rattle.lists.specs.Functions.{each}
-use Rattle.lists.proofs.Functions.{each-none, each-more, each-fails}
+use Rattle.lists.proofs.Functions.{each-none}
 use Rattle.model.specs.Table.{soundHost}
+use Rattle.laws.proofs.Tests.{ends, goes-on, stops}
 use Rattle.host.specs.Needs.{Entries, Slot}
-use Rattle.host.proofs.Lent.{lent, lent-entry, soundSlot, sound-lent}
+use Rattle.host.proofs.Lent.{Lent, lent, lent-entry, sound-lent, soundSlot}
 use Rattle.host.proofs.steps.sound_entries.Statement.{statement}
 use Rattle.host.proofs.steps.sound_entries.Tie as tie
 
@@ -26,42 +26,37 @@ abbrev μ-loop : tie.MeasureT-loop
 loop-holds : tie.Need-loop-holds Inv-loop μ-loop
 loop-holds c = (search needs, each-none _)
 
+abbrev start : tie.At-loop Inv-loop μ-loop → tie.Start Inv-loop μ-loop
+start c = c .before .before .before
+
+entry : (c : tie.After-entry-place Inv-loop μ-loop) → let at = c .before .before in let a = start at .args in
+    Lent (a .n) (at .loop .passed + 1) (a .entries .now) (c .entry-place .result) (at .before .entry-size .result)
+entry c =
+    let at = c .before .before in
+    lent (slot (start at .pre) (c .before .loop-test .taken)) (c .entry-place .ensures) (at .before .entry-size .ensures)
+
+abbrev at-loop : tie.After-sound-entry Inv-loop μ-loop → tie.At-loop Inv-loop μ-loop
+at-loop c = let placed = c .before .before in placed .before .before
+
+judged : (c : tie.After-sound-entry Inv-loop μ-loop) → let a = start (at-loop c) .args in
+    c .sound-entry .result ≡ soundSlot (a .n) (a .entries .now) (at-loop c .loop .passed + 1)
+judged c = c .sound-entry .ensures ∙ sound-lent (entry (c .before .before))
+
 sound-entry-requires : tie.Need-sound-entry-requires Inv-loop μ-loop
-sound-entry-requires c κs =
-    let h =
-    lent (slot (c .before .before .before .before .before .before .pre) (c .before .before .loop-test .taken))
-    (c .before .entry-place .ensures)
-    (c .before .before .before .before .entry-size .ensures) in
-    lent-entry h
+sound-entry-requires c κs = lent-entry (entry (c .before))
 
 returns : tie.Need-returns Inv-loop μ-loop
 unfolding soundHost
-returns c =
-    let a = c .before .before .before .before .before .before .before .before .args in
-    let h =
-    lent (slot (c .before .before .before .before .before .before .before .before .pre) (c .before .before .before .before .loop-test .taken))
-    (c .before .before .before .entry-place .ensures)
-    (c .before .before .before .before .before .before .entry-size .ensures) in
-    sym (each-fails (a .n) (soundSlot (a .n) (a .entries .now)) (c .before .before .before .before .before .loop .passed + 1) (omega arith) (omega arith)
-    (sym (sound-lent h) ∙ sym (c .before .sound-entry .ensures) ∙ not-true _ (c .if1 .taken)))
+returns c = let one = c .before in stops _ _ _ (one .before .before .before .loop-test .taken) (judged one) (c .if1 .taken)
 
 loop-again : tie.Need-loop-again Inv-loop μ-loop
 loop-again c =
-    let a = c .before .before .before .before .before .before .before .before .args in
-    let l = c .before .before .before .before .before .loop in
-    let h =
-    lent (slot (c .before .before .before .before .before .before .before .before .pre) (c .before .before .before .before .loop-test .taken))
-    (c .before .before .before .entry-place .ensures)
-    (c .before .before .before .before .before .before .entry-size .ensures) in
-    let sound = sym (sound-lent h) ∙ sym (c .before .sound-entry .ensures) ∙ not-false _ (c .if1 .left) in
-    (search needs, each-more (l .passed) (soundSlot (a .n) (a .entries .now)) (l .inv .1) sound)
+    let at = at-loop (c .before) in
+    (search needs, goes-on (start at .args .n) _ _ (at .loop .inv .1) (judged (c .before)) (c .if1 .left))
 
 returns-2 : tie.Need-returns-2 Inv-loop μ-loop
 unfolding soundHost
-returns-2 c =
-    let l = c .before .loop in
-    let e : l .passed ≡ c .before .before .before .before .args .n = omega arith in
-    sym (rw e at (l .inv .1))
+returns-2 c = ends _ _ (c .before .loop .passed) (omega arith) (c .before .loop .inv .1)
 
 pub sound-entries-spec : {M : Type 1} → statement M
 sound-entries-spec =

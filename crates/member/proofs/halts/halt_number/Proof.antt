@@ -129,7 +129,8 @@ cast-slot : tie.Need-cast-slot
 cast-slot c = omega (arith, c .shared-slice-known2 .given 3)
 
 load-row-requires : tie.Need-load-row-requires
-load-row-requires c κs = (search needs, omega (arith, accepted-room (c .before .before .before .args .n), c .before .layout .ensures .accepted))
+load-row-requires c κs =
+    (search needs, omega (arith, accepted-room (c .before .before .before .args .n), c .before .layout .ensures .accepted))
 
 returns : tie.Need-returns
 returns c = sym (judged (c .before .before .before) ∙ rw (ne-eqb _ 3 (c .if1 .taken)))

@@ -14,10 +14,31 @@ add-first : tie.Need-add-first
 add-first c = record { fits = omega (arith, square-small (c .args .n) (c .pre)) }
 
 add-second : tie.Need-add-second
-add-second c = record { fits = omega (arith, square-small (c .before .args .n) (c .before .pre), recordSize-small (c .before .args .n) (c .before .pre), c .record-size .ensures) }
+add-second c =
+    record {
+      fits =
+          omega (
+            arith,
+            square-small (c .before .args .n) (c .before .pre),
+            recordSize-small (c .before .args .n)
+                (c .before .pre),
+            c .record-size .ensures,
+          );
+    }
 
 add-size : tie.Need-add-size
-add-size c = record { fits = omega (arith, square-small (c .before .before .args .n) (c .before .before .pre), recordSize-small (c .before .before .args .n) (c .before .before .pre), c .before .record-size .ensures, c .record-size2 .ensures) }
+add-size c =
+    record {
+      fits =
+          omega (
+            arith,
+            square-small (c .before .before .args .n) (c .before .before .pre),
+            recordSize-small (c .before .before .args .n)
+                (c .before .before .pre),
+            c .before .record-size .ensures,
+            c .record-size2 .ensures,
+          );
+    }
 
 returns : tie.Need-returns
 unfolding acceptedAt lastAt pendingAt knownAt firstAt secondAt blockSize

@@ -1,19 +1,20 @@
--- `fail` meets its contract. Assumes nothing.
+-- `fail` meets its contract: the words after the clearing, the phase and the halt number are those of `failed-by`.
 use borrow.Author.Needs.{needs}
-use mathlib.Core.Path.{ap, _∙_}
 use Prim.Native.Nat.{_*_}
 use native.Mathlib.Omega.{arith}
+use mathlib.Core.Path.{_∙_, ap}
 use lib.ListN.{length-set}
 use Rattle.lists.specs.Parts.{words}
-use Rattle.model.specs.Table.{acceptedAt, lastAt, pendingAt, knownAt, firstAt, secondAt, blockSize, memberOf}
+use Rattle.model.specs.Messages.{fits}
+use Rattle.model.specs.Table.{acceptedAt, blockSize, firstAt, knownAt, lastAt, memberOf, pendingAt, secondAt}
 use Rattle.laws.proofs.Records.{recordSize-small}
-use Rattle.laws.proofs.Steps.{holds-set, holds-cleared, failed-by}
+use Rattle.laws.proofs.Steps.{failed-by, holds-cleared, holds-set}
 use Rattle.member.proofs.Laws.{whole}
 use Rattle.member.proofs.parts.fail.Statement.{statement}
 use Rattle.member.proofs.parts.fail.Tie as tie
 
 mul-messages : tie.Need-mul-messages
-mul-messages c = record { fits = omega (arith, recordSize-small (c .before .before .before .args .n) (c .before .before .before .pre .most)) }
+mul-messages c = let s = c .before .before .before in record { fits = omega (arith, recordSize-small (s .args .n) (s .pre .most)) }
 
 clear-requires : tie.Need-clear-requires
 unfolding blockSize secondAt firstAt knownAt pendingAt lastAt acceptedAt
@@ -30,10 +31,14 @@ slice-write-block-2 c = simp length-set (omega arith)
 returns : tie.Need-returns
 unfolding blockSize secondAt firstAt knownAt pendingAt lastAt acceptedAt
 returns c =
-    let a = (c .before .before .before .before .before .before .before .args) in
-    let at = (c .before .before .before .before .before .layout) in
-    let size = (c .before .before .before .before .record-size) in
-    let m = holds-cleared (whole (c .before .before .before .before .before .before .before .pre)) (c .before .before .clear .last .0) (at .result .first) (2 * size .result) (c .before .before .clear .ensures) (omega arith) in
+    let clears = c .before .before in
+    let sized = clears .before .before in
+    let s = sized .before .before .before in
+    let a = s .args in
+    let at = sized .before .layout in
+    let size = sized .record-size in
+    let m = holds-cleared (whole (s .pre)) (clears .clear .last .0) (at .result .first) (2 * size .result) (clears .clear .ensures)
+    (omega arith) in
     let e = holds-set (holds-set m 0 6 (omega arith)) 2 (a .number) (omega arith) in
     ap (memberOf (a .n)) (e .same) ∙ rw (at .ensures .first, size .ensures) (failed-by (a .n) (words (a .block .now)) (a .number))
 

@@ -1,12 +1,13 @@
+-- `note_first` meets its contract: the words after the store and the phase are those of `first-noted-by`.
 use borrow.Author.Needs.{needs}
-use mathlib.Core.Path.{ap, _∙_}
 use native.Mathlib.Omega.{arith}
-use Rattle.model.specs.Table.{acceptedAt, lastAt, pendingAt, knownAt, firstAt, secondAt, blockSize, memberOf}
+use mathlib.Core.Path.{_∙_, ap}
 use lib.ListN.{length-set}
 use Rattle.lists.specs.Parts.{words}
-use Rattle.laws.proofs.Steps.{holds-set, holds-record}
+use Rattle.model.specs.Table.{acceptedAt, blockSize, firstAt, knownAt, lastAt, memberOf, pendingAt, secondAt}
+use Rattle.laws.proofs.Steps.{holds-record, holds-set}
 use Rattle.records.specs.Meaning.{recordIn}
-use Rattle.member.proofs.Laws.{whole, first-noted-by}
+use Rattle.member.proofs.Laws.{first-noted-by, whole}
 use Rattle.member.proofs.parts.note_first.Statement.{statement}
 use Rattle.member.proofs.parts.note_first.Tie as tie
 
@@ -24,12 +25,15 @@ same-length c = simp length-set (omega (arith, c .before .before .store-record .
 returns : tie.Need-returns
 unfolding blockSize secondAt firstAt knownAt pendingAt lastAt acceptedAt
 returns c =
-    let a = (c .before .before .before .before .before .before .args) in
-    let at = (c .before .before .before .before .layout) in
-    let f = holds-record (whole ((c .before .before .before .before .before .before .pre))) (c .before .before .store-record .last .0) (a .n) (at .result .first) (recordIn (a .first)) (c .before .before .store-record .ensures) (omega arith) in
+    let stores = c .before .before in
+    let laid = stores .before .before in
+    let s = laid .before .before in
+    let a = s .args in
+    let r = recordIn (a .first) in
+    let f = holds-record (whole (s .pre)) (stores .store-record .last .0) (a .n) (laid .layout .result .first) r
+    (stores .store-record .ensures) (omega arith) in
     let e = holds-set f 0 (a .phase) (omega arith) in
-    ap (memberOf (a .n)) (e .same)
-    ∙ rw (at .ensures .first) (first-noted-by (a .n) (words (a .block .now)) (a .phase) (recordIn (a .first)))
+    ap (memberOf (a .n)) (e .same) ∙ rw (laid .layout .ensures .first) (first-noted-by (a .n) (words (a .block .now)) (a .phase) r)
 
 pub note-first-spec : {M : Type 1} → statement M
 note-first-spec =

@@ -7,6 +7,12 @@ use Rattle.member.proofs.Laws.{own-built}
 use Rattle.member.proofs.parts.own_record.Statement.{statement}
 use Rattle.member.proofs.parts.own_record.Tie as tie
 
+abbrev start : tie.After-layout → tie.Start
+start c = c .before .before
+
+abbrev at-layout : tie.After-latest → tie.After-layout
+at-layout c = c .before .before .before
+
 shared-slice-read-slot : tie.Need-shared-slice-read-slot
 unfolding blockSize secondAt firstAt knownAt pendingAt lastAt acceptedAt memberOf
 shared-slice-read-slot c = omega arith
@@ -37,7 +43,9 @@ cast-joined-matrix c = record { fits = omega arith }
 
 joined-matrix-requires : tie.Need-joined-matrix-requires
 unfolding memberOf
-joined-matrix-requires c κs = (c .before .before .before .before .before .before .pre .0 .block .most, (c .before .before .before .before .before .before .pre .1 .0, c .before .before .before .before .before .before .pre .0 .slot))
+joined-matrix-requires c κs =
+    let s = start (at-layout (c .before)) in
+    (s .pre .0 .block .most, (s .pre .1 .0, s .pre .0 .slot))
 
 shared-slice-read-t13 : tie.Need-shared-slice-read-t13
 unfolding blockSize secondAt firstAt knownAt pendingAt lastAt acceptedAt memberOf
@@ -46,10 +54,13 @@ shared-slice-read-t13 c = omega arith
 returns : tie.Need-returns
 unfolding memberOf recordIn
 returns c =
-    let a = (c .before .before .before .before .before .before .before .before .args) in
-    let p = (c .before .before .before .before .before .before .before .before .pre) in
-    let at = c .before .before .before .before .before .before .layout .ensures in
-    own-built (a .n) (a .member) (words (a .block .now)) (recordIn (a .newest)) (c .before .before .load-value .result) (a .known) (c .before .joined-matrix .result)
+    let layout = at-layout (c .before .before .before) in
+    let s = start layout in
+    let a = (s .args) in
+    let p = (s .pre) in
+    let at = layout .layout .ensures in
+    own-built (a .n) (a .member) (words (a .block .now)) (recordIn (a .newest)) (c .before .before .load-value .result) (a .known)
+    (c .before .joined-matrix .result)
     (p .1 .0) (p .0 .slot) (rw (at .pending) at (c .before .before .load-value .ensures)) (p .1 .1) (c .before .joined-matrix .ensures)
 
 pub own-record-spec : {M : Type 1} → statement M

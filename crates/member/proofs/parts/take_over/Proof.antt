@@ -1,17 +1,34 @@
--- `take_over` meets its contract. Assumes nothing.
+-- `take_over` meets its contract: the count stored and the matrix copied are what `kept` says; a read is done then, a write copies its value.
 use borrow.Author.Needs.{needs}
-use borrow.Author.Tests.{eq-eqb, ne-eqb}
-use mathlib.Core.Path.{ap, _∙_}
 use native.Mathlib.Omega.{arith}
-use lib.ListN.{length-set}
+use mathlib.Core.Path.{_∙_, _≡_, ap}
+use lib.ListN.{length, length-set}
+use borrow.Author.Tests.{eq-eqb, ne-eqb}
 use Rattle.lists.specs.Parts.{words}
+use Rattle.model.specs.Messages.{fits}
 use Rattle.model.specs.RecordWords.{recordSize}
-use Rattle.model.specs.Table.{acceptedAt, lastAt, pendingAt, knownAt, firstAt, secondAt, blockSize, memberOf}
+use Rattle.model.specs.Table.{acceptedAt, blockSize, firstAt, knownAt, lastAt, memberOf, pendingAt, secondAt}
 use Rattle.laws.proofs.Records.{square-small}
-use Rattle.laws.proofs.Steps.{holds-copied, tookOver-read, tookOver-write}
-use Rattle.member.proofs.Laws.{kept-held}
+use Rattle.laws.proofs.Steps.{Holds, kept, tookOver-read, tookOver-write}
+use Rattle.member.proofs.Laws.{kept-held, last-held}
 use Rattle.member.proofs.parts.take_over.Statement.{statement}
 use Rattle.member.proofs.parts.take_over.Tie as tie
+
+abbrev start : tie.After-layout → tie.Start
+start c = c .before .before
+
+abbrev laid : tie.After-struct-known → tie.After-layout
+laid c = let read = c .before .before in read .before .before
+
+abbrev placed : tie.After-copy-down → tie.After-layout
+placed c = laid (c .before .before .before)
+
+copied : (c : tie.After-copy-down)
+    → let a = start (placed c) .args in Holds (blockSize (a .n)) (c .copy-down .last .0) (kept (a .n) (words (a .block .now)))
+copied c = kept-held (start (placed c) .pre) (placed c .layout .ensures) _ (c .copy-down .ensures)
+
+same : (c : tie.After-copy-down) → length (c .copy-down .last .0) ≡ length (start (placed c) .args .block .now)
+same c = simp length-set at (c .copy-down .kept .0)
 
 slice-read-slot : tie.Need-slice-read-slot
 unfolding blockSize secondAt firstAt knownAt pendingAt lastAt acceptedAt recordSize memberOf
@@ -55,44 +72,44 @@ slice-write-block c = omega arith
 
 add-copy-down : tie.Need-add-copy-down
 unfolding blockSize secondAt firstAt knownAt pendingAt lastAt acceptedAt recordSize memberOf
-add-copy-down c = record { fits = omega (arith, square-small (c .before .before .before .before .before .before .before .before .args .n) (c .before .before .before .before .before .before .before .before .pre .block .most)) }
+add-copy-down c =
+    let s = start (laid (c .before .before)) in record { fits = omega (arith, square-small (s .args .n) (s .pre .block .most)) }
 
 mul-copy-down : tie.Need-mul-copy-down
-mul-copy-down c = record { fits = omega (arith, square-small (c .before .before .before .before .before .before .before .before .args .n) (c .before .before .before .before .before .before .before .before .pre .block .most)) }
+mul-copy-down c =
+    let s = start (laid (c .before .before)) in record { fits = omega (arith, square-small (s .args .n) (s .pre .block .most)) }
 
 copy-down-requires : tie.Need-copy-down-requires
 unfolding blockSize secondAt firstAt knownAt pendingAt lastAt acceptedAt recordSize memberOf
 copy-down-requires c κs = (omega arith, simp length-set (omega arith))
 
 same-length : tie.Need-same-length
-same-length c = simp length-set at (c .before .before .before .copy-down .kept .0)
+same-length c = same (c .before .before .before)
 
 returns : tie.Need-returns
 unfolding memberOf
 returns c =
-    let a = (c .before .before .before .before .before .before .before .before .before .before .before .before .args) in
-    let p = (c .before .before .before .before .before .before .before .before .before .before .before .before .pre) in
-    let m = kept-held p (c .before .before .before .before .before .before .before .before .before .before .layout .ensures) (c .before .before .before .copy-down .last .0) (c .before .before .before .copy-down .ensures) in
-    ap (memberOf (a .n)) (m .same) ∙ tookOver-read (a .n) (words (a .block .now)) (p .slot .least) (p .slot .most) (ne-eqb (words (a .block .now) 4) 2 (c .if1 .taken))
+    let copies = c .before .before .before in
+    let s = start (placed copies) in
+    ap (memberOf (s .args .n)) (copied copies .same)
+    ∙ tookOver-read (s .args .n) (words (s .args .block .now)) (s .pre .slot .least) (s .pre .slot .most) (ne-eqb _ 2 (c .if1 .taken))
 
 copy-down-requires-2 : tie.Need-copy-down-requires-2
 unfolding blockSize secondAt firstAt knownAt pendingAt lastAt acceptedAt recordSize memberOf
-copy-down-requires-2 c κs = (omega arith, omega (arith, simp length-set at (c .before .before .before .before .copy-down .kept .0)))
+copy-down-requires-2 c κs = (omega arith, omega (arith, same (c .before .before .before .before)))
 
 same-length-2 : tie.Need-same-length-2
-same-length-2 c = c .before .before .copy-down2 .kept .0 ∙ (simp length-set at (c .before .before .before .before .before .before .before .copy-down .kept .0))
+same-length-2 c = let copies2 = c .before .before in copies2 .copy-down2 .kept .0 ∙ same (copies2 .before .before .before .before .before)
 
 returns-2 : tie.Need-returns-2
-unfolding blockSize secondAt firstAt knownAt pendingAt lastAt acceptedAt recordSize memberOf
+unfolding memberOf
 returns-2 c =
-    let a = (c .before .before .before .before .before .before .before .before .before .before .before .before .before .before .before .before .args) in
-    let p = (c .before .before .before .before .before .before .before .before .before .before .before .before .before .before .before .before .pre) in
-    let at = (c .before .before .before .before .before .before .before .before .before .before .before .before .before .before .layout) in
-    let w = words (a .block .now) in
-    let m = kept-held p (at .ensures) (c .before .before .before .before .before .before .before .copy-down .last .0) (c .before .before .before .before .before .before .before .copy-down .ensures) in
-    let v = holds-copied m (c .before .before .copy-down2 .last .0) (at .result .last) (at .result .pending) 8 (c .before .before .copy-down2 .ensures) (omega arith) (omega arith) in
-    ap (memberOf (a .n)) (v .same)
-    ∙ rw (at .ensures .last, at .ensures .pending) (tookOver-write (a .n) w (p .slot .least) (p .slot .most) (eq-eqb (w 4) 2 (c .before .before .before .before .if1 .left)))
+    let copies2 = c .before .before in
+    let left = copies2 .before .before in
+    let copies = left .before .before .before in
+    let s = start (placed copies) in
+    ap (memberOf (s .args .n)) (last-held (copied copies) (placed copies .layout .ensures) _ (copies2 .copy-down2 .ensures) .same)
+    ∙ tookOver-write (s .args .n) (words (s .args .block .now)) (s .pre .slot .least) (s .pre .slot .most) (eq-eqb _ 2 (left .if1 .left))
 
 pub take-over-spec : {M : Type 1} → statement M
 take-over-spec =

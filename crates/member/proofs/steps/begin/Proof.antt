@@ -1,16 +1,26 @@
--- `begin` meets its contract. Assumes nothing.
+-- `begin` meets its contract: the words after the count, the value and the three stores are those of `begun-by`.
 use borrow.Author.Needs.{needs}
-use mathlib.Core.Path.{ap, _∙_}
 use Prim.Native.Nat.{_+_, _-_}
 use native.Mathlib.Omega.{arith}
-use lib.ListN.{length-set}
+use mathlib.Core.Path.{_∙_, _≡_, ap}
+use lib.ListN.{length, length-set}
 use Rattle.lists.specs.Parts.{words}
+use Rattle.model.specs.Messages.{fits}
 use Rattle.model.specs.RecordWords.{valueOf}
-use Rattle.model.specs.Table.{acceptedAt, lastAt, pendingAt, knownAt, firstAt, secondAt, blockSize, memberOf}
-use Rattle.laws.proofs.Steps.{holds-set, holds-pasted, count-of, begun-by}
+use Rattle.model.specs.Table.{acceptedAt, blockSize, firstAt, knownAt, lastAt, memberOf, pendingAt, secondAt}
+use Rattle.laws.proofs.Steps.{begun-by, count-of, holds-pasted, holds-set}
 use Rattle.member.proofs.Laws.{whole}
 use Rattle.member.proofs.steps.begin.Statement.{statement}
 use Rattle.member.proofs.steps.begin.Tie as tie
+
+abbrev start : tie.After-carried → tie.Start
+start c = let laid = c .before .before in laid .before .before
+
+abbrev carries : tie.After-store-value → tie.After-carried
+carries c = c .before .before .before
+
+long : (c : tie.After-store-value) → length (c .store-value .last .0) ≡ length (start (carries c) .args .block .now)
+long c = simp length-set at (c .store-value .kept .0)
 
 carried-requires : tie.Need-carried-requires
 unfolding blockSize secondAt firstAt knownAt pendingAt lastAt acceptedAt
@@ -23,9 +33,12 @@ slice-read-block c = omega arith
 add-block : tie.Need-add-block
 unfolding memberOf
 add-block c =
-    let a = (c .before .before .before .before .before .args) in
-    let p = (c .before .before .before .before .before .pre) in
-    record { fits = omega (arith, p .1 .1, count-of (a .n) (words (a .block .now)) 5 (a .slot) (p .1 .0 .least) (p .1 .0 .most)) }
+    let s = start (c .before) in
+    let slot = s .pre .1 .0 in
+    record {
+      fits =
+          omega (arith, s .pre .1 .1, count-of (s .args .n) (words (s .args .block .now)) 5 (s .args .slot) (slot .least) (slot .most));
+    }
 
 slice-write-block : tie.Need-slice-write-block
 unfolding blockSize secondAt firstAt knownAt pendingAt lastAt acceptedAt
@@ -37,34 +50,39 @@ store-value-requires c κs = simp length-set (omega arith)
 
 slice-write-block-2 : tie.Need-slice-write-block-2
 unfolding blockSize secondAt firstAt knownAt pendingAt lastAt acceptedAt
-slice-write-block-2 c = omega (arith, simp length-set at (c .before .before .store-value .kept .0))
+slice-write-block-2 c = omega (arith, long (c .before .before))
 
 slice-write-block-3 : tie.Need-slice-write-block-3
 unfolding blockSize secondAt firstAt knownAt pendingAt lastAt acceptedAt
-slice-write-block-3 c = simp length-set (omega (arith, simp length-set at (c .before .before .store-value .kept .0)))
+slice-write-block-3 c = simp length-set (omega (arith, long (c .before .before)))
 
 slice-write-block-4 : tie.Need-slice-write-block-4
 unfolding blockSize secondAt firstAt knownAt pendingAt lastAt acceptedAt
-slice-write-block-4 c = simp length-set (omega (arith, simp length-set at (c .before .before .store-value .kept .0)))
+slice-write-block-4 c = simp length-set (omega (arith, long (c .before .before)))
 
 same-length : tie.Need-same-length
-same-length c = simp length-set (simp length-set at (c .before .before .store-value .kept .0))
+same-length c = simp length-set (long (c .before .before))
 
 returns : tie.Need-returns
 unfolding blockSize secondAt firstAt knownAt pendingAt lastAt acceptedAt
 returns c =
-    let a = (c .before .before .before .before .before .before .before .before .before .args) in
-    let p = (c .before .before .before .before .before .before .before .before .before .pre) in
-    let at = (c .before .before .before .before .before .before .before .layout) in
+    let stores = c .before .before in
+    let pending = stores .before .before .before in
+    let laid = pending .before .before in
+    let s = laid .before .before in
+    let a = s .args in
+    let at = laid .layout in
     let w = words (a .block .now) in
     let own = 5 + a .slot - 1 in
-    let o = holds-set (whole (p .0)) own (w own + 1) (omega arith) in
-    let v = holds-pasted o (c .before .before .store-value .last .0) (at .result .pending) 8 (words (c .before .before .before .before .before .carried .result)) (c .before .before .store-value .kept .0) (c .before .before .store-value .ensures) in
+    let value = words (pending .carried .result) in
+    let o = holds-set (whole (s .pre .0)) own (w own + 1) (omega arith) in
+    let v = holds-pasted o (stores .store-value .last .0) (at .result .pending) 8 value (stores .store-value .kept .0)
+    (stores .store-value .ensures) in
     let e = holds-set (holds-set (holds-set v 0 1 (omega arith)) 3 (a .slot) (omega arith)) 4 (a .operation) (omega arith) in
     ap (memberOf (a .n)) (e .same)
     ∙ rw (at .ensures .pending)
-    (begun-by (a .n) w (a .slot) (a .operation) (valueOf (words (a .value))) (words (c .before .before .before .before .before .carried .result)) (p .1 .0 .least) (p .1 .0 .most)
-    (rw (at .ensures .last) at (c .before .before .before .before .before .carried .ensures)))
+    (begun-by (a .n) w (a .slot) (a .operation) (valueOf (words (a .value))) value (s .pre .1 .0 .least) (s .pre .1 .0 .most)
+    (rw (at .ensures .last) at (pending .carried .ensures)))
 
 pub begin-spec : {M : Type 1} → statement M
 begin-spec =

@@ -22,7 +22,8 @@ returns c =
     let a = c .before .before .before .before .before .args in
     let w = words (a .block .now) in
     c .begin-answer .ensures
-    ∙ ap (λ count. beginAnswer concur (a .n) (w 0) (w 1) count (a .member) (a .slot) (a .operation)) (c .before .before .before .own-count .ensures)
+    ∙ ap (λ count. beginAnswer concur (a .n) (w 0) (w 1) count (a .member) (a .slot) (a .operation))
+    (c .before .before .before .own-count .ensures)
 
 pub begin-refusal-spec : {M : Type 1} → statement M
 begin-refusal-spec =

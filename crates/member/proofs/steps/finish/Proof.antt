@@ -51,7 +51,8 @@ returns c =
 
 add-load-value : tie.Need-add-load-value
 unfolding blockSize
-add-load-value c = let s = start (c .before .before .before) in record { fits = omega (arith, block-small (s .args .n) (s .pre .block .most)) }
+add-load-value c =
+    let s = start (c .before .before .before) in record { fits = omega (arith, block-small (s .args .n) (s .pre .block .most)) }
 
 load-value-requires : tie.Need-load-value-requires
 unfolding blockSize recordSize

@@ -17,7 +17,9 @@ slice-write-block c = omega (arith, block-sum (c .before .args .n))
 returns : tie.Need-returns
 returns c =
     let a = (c .before .args) in
-    rw (c .if1 .taken) (ap (memberOf (a .n)) (holds-set (whole (c .before .pre)) 0 4 (omega (arith, block-sum (a .n))) .same) ∙ judged-by (a .n) (words (a .block .now)) true)
+    rw (c .if1 .taken)
+    (ap (memberOf (a .n)) (holds-set (whole (c .before .pre)) 0 4 (omega (arith, block-sum (a .n))) .same) ∙ judged-by (a .n)
+    (words (a .block .now)) true)
 
 slice-write-block-2 : tie.Need-slice-write-block-2
 slice-write-block-2 c = omega (arith, block-sum (c .before .args .n))
@@ -25,7 +27,9 @@ slice-write-block-2 c = omega (arith, block-sum (c .before .args .n))
 returns-2 : tie.Need-returns-2
 returns-2 c =
     let a = (c .before .args) in
-    rw (c .if1 .left) (ap (memberOf (a .n)) (holds-set (whole (c .before .pre)) 0 5 (omega (arith, block-sum (a .n))) .same) ∙ judged-by (a .n) (words (a .block .now)) false)
+    rw (c .if1 .left)
+    (ap (memberOf (a .n)) (holds-set (whole (c .before .pre)) 0 5 (omega (arith, block-sum (a .n))) .same) ∙ judged-by (a .n)
+    (words (a .block .now)) false)
 
 pub judge-spec : {M : Type 1} → statement M
 judge-spec =

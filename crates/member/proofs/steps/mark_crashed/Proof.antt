@@ -16,7 +16,8 @@ slice-write-block c = omega (arith, block-sum (c .args .n))
 returns : tie.Need-returns
 returns c =
     let a = (c .args) in
-    ap (memberOf (a .n)) (holds-set (whole (c .pre)) 1 1 (omega (arith, block-sum (a .n))) .same) ∙ crashed-by (a .n) (words (a .block .now))
+    ap (memberOf (a .n)) (holds-set (whole (c .pre)) 1 1 (omega (arith, block-sum (a .n))) .same) ∙ crashed-by (a .n)
+    (words (a .block .now))
 
 pub mark-crashed-spec : {M : Type 1} → statement M
 mark-crashed-spec = tie.close (tie.spec slice-write-block (λ c. search needs) returns)

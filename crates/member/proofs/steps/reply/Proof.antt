@@ -20,7 +20,8 @@ laid c = c .before .before
 
 -- what the checks, and passing, ask of the block and the known matrix
 asked : (c : tie.After-load-matrix) → let a = start (laid c) .args in
-    (Running (a .n) (a .block .now)) × ((Within (a .n) (a .member)) × (matrixIn (c .load-matrix .result) ≡ memberOf (a .n) (words (a .block .now)) .known))
+    (Running (a .n)
+    (a .block .now)) × ((Within (a .n) (a .member)) × (matrixIn (c .load-matrix .result) ≡ memberOf (a .n) (words (a .block .now)) .known))
 asked c =
     let s = start (laid c) in
     (s .pre .0, (s .pre .1, known-loaded (s .args .n) (words (s .args .block .now)) _ (laid c .layout .ensures) (c .load-matrix .ensures)))

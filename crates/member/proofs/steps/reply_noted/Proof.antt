@@ -33,7 +33,8 @@ loaded c = c .before .before
 
 -- what the checks, and passing, ask of the block and the known matrix
 asked : (c : tie.After-load-matrix) → let a = start (laid c) .args in
-    (Running (a .n) (a .block .now)) × ((Within (a .n) (a .member)) × (matrixIn (c .load-matrix .result) ≡ memberOf (a .n) (words (a .block .now)) .known))
+    (Running (a .n)
+    (a .block .now)) × ((Within (a .n) (a .member)) × (matrixIn (c .load-matrix .result) ≡ memberOf (a .n) (words (a .block .now)) .known))
 asked c =
     let s = start (laid c) in
     (s .pre .0, (s .pre .1, known-loaded (s .args .n) (words (s .args .block .now)) _ (laid c .layout .ensures) (c .load-matrix .ensures)))
@@ -50,7 +51,8 @@ unfolding memberOf
 stored c = record-loaded _ _ (laid (matrix (first c)) .layout .ensures .second) (c .load-record2 .ensures)
 
 noted : (c : tie.After-load-record2) → let a = start (laid (matrix (first c))) .args in let m = memberOf (a .n) (words (a .block .now)) in
-    replied (a .n) (a .member) m (recordWithin (a .n) (recordIn (first c .load-record .result))) (recordWithin (a .n) (recordIn (c .load-record2 .result))) 3
+    replied (a .n) (a .member) m (recordWithin (a .n) (recordIn (first c .load-record .result)))
+    (recordWithin (a .n) (recordIn (c .load-record2 .result))) 3
     ≡ replied (a .n) (a .member) m (m .first) (m .second) 3
 noted c =
     let a = start (laid (matrix (first c))) .args in

@@ -51,7 +51,8 @@ marks c = leb (word c 0) 6 && leb (word c 1) 1 && (eqb (word c 2) 0 || leb 21 (w
 abbrev answer : tie.After-layout → Bool
 answer c = soundMember (start c .args .n) (start c .args .member) (memberOf (start c .args .n) (word c))
 
-judged : (c : tie.After-layout) → answer c ≡ (marks c && leb (word c 3) (start c .args .n) && leb (word c 4) 2 && operates c && first c && second c)
+judged : (c : tie.After-layout)
+    → answer c ≡ (marks c && leb (word c 3) (start c .args .n) && leb (word c 4) 2 && operates c && first c && second c)
 judged c = by-words _ _ (word c) _ _ (c .layout .ensures .first) (c .layout .ensures .second)
 
 room : (c : tie.After-layout) → 5 ≤ length (start c .args .block .now)
@@ -74,7 +75,8 @@ at4 c = at3 (c .before .before)
 abbrev at5 : tie.Else5 → tie.After-layout
 at5 c = at4 (c .before .before)
 
-past1 : (c : tie.Else1) → let l = read5 (c .before) in answer l ≡ (leb (word l 3) (start l .args .n) && leb (word l 4) 2 && operates l && first l && second l)
+past1 : (c : tie.Else1)
+    → let l = read5 (c .before) in answer l ≡ (leb (word l 3) (start l .args .n) && leb (word l 4) 2 && operates l && first l && second l)
 past1 c = judged (read5 (c .before)) ∙ rw (allowed (c .before .sound-marks .ensures) (c .if1 .left))
 
 past2 : (c : tie.Else2) → let l = read5 (c .before .before) in answer l ≡ (leb (word l 4) 2 && operates l && first l && second l)

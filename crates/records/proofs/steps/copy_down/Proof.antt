@@ -30,7 +30,8 @@ loop-again c =
       (
         simp length-set (omega arith),
         words-more (l .t) (a .at) (l .i) (a .at + l .i) _ w (words (a .t .now)) (l .inv .1 .1) refl (omega arith)
-            (ap (λ f. f (a .source + l .i)) (l .inv .1 .1) ∙ pasted-above (a .at) (l .i) w (words (a .t .now)) (a .source + l .i) (omega arith)),
+            (ap (λ f. f (a .source + l .i)) (l .inv .1 .1) ∙ pasted-above (a .at) (l .i) w (words (a .t .now)) (a .source + l .i)
+            (omega arith)),
       ),
     )
 
@@ -39,7 +40,8 @@ returns c =
     let a = c .before .before .args in
     let l = c .before .loop in
     let e : l .i ≡ a .count = omega arith in
-    replaced-of (a .t .now) (l .t) (a .at) (a .count) (from (words (a .t .now)) (a .source)) (omega arith) (l .inv .1 .0) (rw e at (l .inv .1 .1))
+    replaced-of (a .t .now) (l .t) (a .at) (a .count) (from (words (a .t .now)) (a .source)) (omega arith) (l .inv .1 .0)
+    (rw e at (l .inv .1 .1))
     ∙ ap (replaced (a .t .now) (a .at)) (sym (part-tabulate (a .t .now) (a .source) (a .count) (omega arith)))
 
 pub copy-down-spec : {M : Type 1} → statement M

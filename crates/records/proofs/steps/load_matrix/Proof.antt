@@ -49,7 +49,8 @@ loop-again c =
       search needs,
       (
         simp length-set (omega arith),
-        seen-more rowIn noRow (l .matrix) 0 (l .j) (l .j) (c .load-row .result) (λ k. rowOf (a .n) (from (from w (a .at)) (k * a .n))) zeroMatrix
+        seen-more rowIn noRow (l .matrix) 0 (l .j) (l .j) (c .load-row .result)
+            (λ k. rowOf (a .n) (from (from w (a .at)) (k * a .n))) zeroMatrix
             (l .inv .1 .1) (omega arith) (omega arith)
             (c .load-row .ensures ∙ ap (rowOf (a .n)) (sym (from-from w (a .at) (l .j * a .n)))),
       ),
@@ -61,7 +62,8 @@ returns c =
     let a = c .before .before .before .args in
     let l = c .before .loop in
     let e : l .j ≡ a .n = omega arith in
-    matrix-read (l .matrix) (a .n) (λ k. rowOf (a .n) (from (from (words (a .t .now)) (a .at)) (k * a .n))) (omega arith) (rw e at (l .inv .1 .1))
+    matrix-read (l .matrix) (a .n) (λ k. rowOf (a .n) (from (from (words (a .t .now)) (a .at)) (k * a .n))) (omega arith)
+    (rw e at (l .inv .1 .1))
 
 pub load-matrix-spec : {M : Type 1} → statement M
 load-matrix-spec =

@@ -9,6 +9,15 @@ use Rattle.records.specs.Meaning.{recordIn}
 use Rattle.records.proofs.steps.load_record.Statement.{statement}
 use Rattle.records.proofs.steps.load_record.Tie as tie
 
+abbrev start : tie.After-load-value → tie.Start
+start c = c .before .before
+
+abbrev at-load-value : tie.After-load-matrix → tie.After-load-value
+at-load-value c = c .before
+
+abbrev at-load-matrix : tie.After-shared-slice-known2 → tie.After-load-matrix
+at-load-matrix c = c .before
+
 add-load-value : tie.Need-add-load-value
 unfolding recordSize
 add-load-value c = record { fits = omega arith }
@@ -56,8 +65,10 @@ shared-slice-read-t20 c = omega arith
 returns : tie.Need-returns
 unfolding recordIn
 returns c =
-    let a = c .before .before .before .before .before .before .before .args in
-    rw (c .before .before .before .before .before .load-value .ensures, c .before .before .before .before .load-matrix .ensures)
+    let load-matrix = at-load-matrix (c .before .before .before) in
+    let load-value = at-load-value load-matrix in
+    let a = start load-value .args in
+    rw (load-value .load-value .ensures, load-matrix .load-matrix .ensures)
     (sym (recordOf-parts (a .n) (words (a .t .now)) (a .at)))
 
 pub load-record-spec : {M : Type 1} → statement M

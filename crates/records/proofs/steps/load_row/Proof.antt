@@ -13,7 +13,8 @@ use Rattle.records.proofs.steps.load_row.Statement.{statement}
 use Rattle.records.proofs.steps.load_row.Tie as tie
 
 abbrev Inv-loop : tie.InvT-loop
-Inv-loop t at n row₀ i₀ row i = (i ≤ 12) × ((length (row .counts) ≡ 12) × (words (row .counts) ≡ pasted 0 (min i n) (from (words t) at) (λ k. 0)))
+Inv-loop t at n row₀ i₀ row i =
+    (i ≤ 12) × ((length (row .counts) ≡ 12) × (words (row .counts) ≡ pasted 0 (min i n) (from (words t) at) (λ k. 0)))
 
 abbrev μ-loop : tie.MeasureT-loop
 μ-loop t at n row₀ i₀ row i = 12 - i
@@ -33,7 +34,8 @@ loop-again c =
       (
         simp length-set (omega arith),
         words-set (l .row .counts) (l .i) (c .count-at .result) (omega arith)
-            ∙ count-loaded (l .i) (a .n) (from (words (a .t .now)) (a .at)) (words (l .row .counts)) (c .count-at .result) (l .inv .1 .1) (c .count-at .ensures),
+            ∙ count-loaded (l .i) (a .n) (from (words (a .t .now)) (a .at)) (words (l .row .counts)) (c .count-at .result) (l .inv .1 .1)
+            (c .count-at .ensures),
       ),
     )
 

@@ -40,7 +40,8 @@ returns c =
     let l = c .before .loop in
     let e : l .i ≡ 8 = omega arith in
     let w : ℕ → ℕ = from (words (a .t .now)) (a .at) in
-    ap valueOf (rw e at (l .inv .1 .1)) ∙ valueOf-same (pasted 0 8 w (λ k. 0)) w (λ i h. pasted-in 0 8 w (λ k. 0) i (omega arith) (omega arith) ∙ ap w (omega arith))
+    ap valueOf (rw e at (l .inv .1 .1)) ∙ valueOf-same (pasted 0 8 w (λ k. 0)) w
+    (λ i h. pasted-in 0 8 w (λ k. 0) i (omega arith) (omega arith) ∙ ap w (omega arith))
 
 pub load-value-spec : {M : Type 1} → statement M
 load-value-spec =

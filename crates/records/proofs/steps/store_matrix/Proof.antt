@@ -22,28 +22,35 @@ Inv-loop t₀ at n matrix j₀ t j =
 abbrev μ-loop : tie.MeasureT-loop
 μ-loop t₀ at n matrix j₀ t j = n - j
 
+abbrev start : tie.At-loop Inv-loop μ-loop → tie.Start Inv-loop μ-loop
+start c = c .before .before
+
+abbrev at-loop : tie.After-store-row Inv-loop μ-loop → tie.At-loop Inv-loop μ-loop
+at-loop c = c .before .before .before .before
+
 loop-holds : tie.Need-loop-holds Inv-loop μ-loop
 loop-holds c = (search needs, (refl, rw zero-mul (sym (pasted-none _ _ _))))
 
 mul-store-row : tie.Need-mul-store-row Inv-loop μ-loop
 mul-store-row c =
-    let a = c .before .before .before .before .args in
+    let a = start (c .before .before) .args in
     record { fits = omega (arith, row-within (a .n) (c .before .before .loop .j) (omega arith), square-small (a .n) (omega arith)) }
 
 add-store-row : tie.Need-add-store-row Inv-loop μ-loop
 add-store-row c =
-    let a = c .before .before .before .before .args in
+    let a = start (c .before .before) .args in
     record { fits = omega (arith, row-within (a .n) (c .before .before .loop .j) (omega arith)) }
 
 store-row-requires : tie.Need-store-row-requires Inv-loop μ-loop
 store-row-requires c κs =
-    let a = c .before .before .before .before .before .args in
+    let a = start (c .before .before .before) .args in
     (search needs, omega (arith, row-within (a .n) (c .before .before .before .loop .j) (omega arith)))
 
 loop-again : tie.Need-loop-again Inv-loop μ-loop
 loop-again c =
-    let a = c .before .before .before .before .before .before .before .before .args in
-    let l = c .before .before .before .before .before .before .loop in (
+    let loop = at-loop (c .before .before) in
+    let a = start loop .args in
+    let l = loop .loop in (
       search needs,
       (
         search needs,

@@ -8,6 +8,15 @@ use Rattle.records.proofs.Laws.{record-stored}
 use Rattle.records.proofs.steps.store_record.Statement.{statement}
 use Rattle.records.proofs.steps.store_record.Tie as tie
 
+abbrev start : tie.After-store-value → tie.Start
+start c = c .before .before .before .before
+
+abbrev at-store-value : tie.After-t → tie.After-store-value
+at-store-value c = c .before
+
+abbrev at-t : tie.After-store-matrix → tie.After-t
+at-t c = c .before .before .before .before
+
 slice-write-t : tie.Need-slice-write-t
 unfolding recordSize
 slice-write-t c = omega arith
@@ -51,19 +60,20 @@ add-store-matrix c = record { fits = omega arith }
 store-matrix-requires : tie.Need-store-matrix-requires
 unfolding recordSize
 store-matrix-requires c κs =
-    (search needs, omega (arith, simp length-set at (c .before .before .before .before .store-value .kept .0)))
+    (search needs, omega (arith, simp length-set at (at-store-value (c .before .before .before) .store-value .kept .0)))
 
 same-length : tie.Need-same-length
 same-length c =
     c .before .before .store-matrix .kept .0
-    ∙ (simp length-set at (c .before .before .before .before .before .before .before .store-value .kept .0))
+    ∙ (simp length-set at (at-store-value (at-t (c .before .before)) .store-value .kept .0))
 
 returns : tie.Need-returns
 returns c =
-    let a = c .before .before .before .before .before .before .before .before .before .before .before .args in
+    let store-value = at-store-value (at-t (c .before .before)) in
+    let a = start store-value .args in
     record-stored (a .n) (a .r) (a .t .now) (a .at) (omega arith)
-    (c .before .before .before .before .before .before .before .store-value .last .0) (c .before .before .store-matrix .last .0)
-    (c .before .before .before .before .before .before .before .store-value .ensures)
+    (store-value .store-value .last .0) (c .before .before .store-matrix .last .0)
+    (store-value .store-value .ensures)
     (c .before .before .store-matrix .ensures)
     (same-length c)
 

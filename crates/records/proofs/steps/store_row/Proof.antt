@@ -16,6 +16,12 @@ Inv-loop t₀ at n row i₀ t i = (i ≤ 12) × ((length t ≡ length t₀) × (
 abbrev μ-loop : tie.MeasureT-loop
 μ-loop t₀ at n row i₀ t i = 12 - i
 
+abbrev start : tie.At-loop Inv-loop μ-loop → tie.Start Inv-loop μ-loop
+start c = c .before .before
+
+abbrev at-loop : tie.After-store-count Inv-loop μ-loop → tie.At-loop Inv-loop μ-loop
+at-loop c = c .before .before .before .before
+
 loop-holds : tie.Need-loop-holds Inv-loop μ-loop
 loop-holds c =
     let a = (c .before .args) in
@@ -28,10 +34,15 @@ store-count-requires c κs = omega (arith, c .before .before .before .loop .inv 
 
 loop-again : tie.Need-loop-again Inv-loop μ-loop
 loop-again c =
-    let a = (c .before .before .before .before .before .before .before .before .args) in
-    let l = (c .before .before .before .before .before .before .loop) in (
+    let loop = at-loop (c .before .before) in
+    let a = (start loop .args) in
+    let l = (loop .loop) in (
       search needs,
-      (c .before .before .store-count .kept .0 ∙ l .inv .1 .0, count-stored (l .i) (a .n) (a .at) (words (a .t4 .counts)) (words (a .t .now)) (words (l .t)) _ (l .inv .1 .1) (c .before .before .store-count .ensures)),
+      (
+        c .before .before .store-count .kept .0 ∙ l .inv .1 .0,
+        count-stored (l .i) (a .n) (a .at) (words (a .t4 .counts))
+            (words (a .t .now)) (words (l .t)) _ (l .inv .1 .1) (c .before .before .store-count .ensures),
+      ),
     )
 
 returns : tie.Need-returns Inv-loop μ-loop

@@ -25,7 +25,11 @@ loop-again c =
     let a = c .before .before .args in
     let l = c .before .loop in (
       search needs,
-      (simp length-set (omega arith), words-more (l .t) (a .at) (l .i) (a .at + l .i) _ (words (a .t3)) (words (a .t .now)) (l .inv .1 .1) refl (omega arith) refl),
+      (
+        simp length-set (omega arith),
+        words-more (l .t) (a .at) (l .i) (a .at + l .i) _ (words (a .t3)) (words (a .t .now))
+            (l .inv .1 .1) refl (omega arith) refl,
+      ),
     )
 
 returns : tie.Need-returns Inv-loop μ-loop

@@ -20,21 +20,33 @@ Inv-loop n self other last i₀ i = (i ≤ last) × ((last ≤ 12) × (below i (
 abbrev μ-loop : tie.MeasureT-loop
 μ-loop n self other last i₀ i = last - i
 
+abbrev start : tie.After-entries Inv-loop μ-loop → tie.Start Inv-loop μ-loop
+start c = c .before
+
+abbrev at-entries : tie.At-loop Inv-loop μ-loop → tie.After-entries Inv-loop μ-loop
+at-entries c = c .before
+
+abbrev at-loop : tie.In-loop Inv-loop μ-loop → tie.At-loop Inv-loop μ-loop
+at-loop c = c .before
+
 loop-holds : tie.Need-loop-holds Inv-loop μ-loop
 unfolding below
 loop-holds c = (search needs, (omega arith, each-none _))
 
 returns : tie.Need-returns Inv-loop μ-loop
 returns c =
-    let a = c .before .before .before .before .before .before .args in
-    let e = c .before .before .before .before .before .entries .ensures in
-    let l = c .before .before .before .before .loop in
+    let loop = at-loop (c .before .before .before) in
+    let entries = at-entries loop in
+    let a = start entries .args in
+    let e = entries .entries .ensures in
+    let l = loop .loop in
     sym (below-fails (a .t1) (a .t2) (min (a .n) 12) (l .i) (omega arith) (omega arith) (c .if1 .taken))
 
 loop-again : tie.Need-loop-again Inv-loop μ-loop
 loop-again c =
-    let a = c .before .before .before .before .before .before .args in
-    let l = c .before .before .before .before .loop in
+    let loop = at-loop (c .before .before .before) in
+    let a = start (at-entries loop) .args in
+    let l = loop .loop in
     (search needs, (search needs, below-more (a .t1) (a .t2) (l .i) (omega arith) (l .inv .1 .1) (c .if1 .left)))
 
 returns-2 : tie.Need-returns-2 Inv-loop μ-loop
