@@ -17,7 +17,7 @@ use Rattle.rows.specs.Meaning.{matrixIn, rowIn}
 use Rattle.rows.specs.declared.Row.{Row}
 use Rattle.records.specs.Meaning.{recordIn}
 use Rattle.records.specs.declared.Record.{Record}
-use Rattle.checks.specs.Needs.{Within}
+use Rattle.lists.specs.Functions.{Within}
 use Rattle.member.proofs.Sizes.{accepted-room, head-room, running-slot, widened}
 use Rattle.member.proofs.halts.halt_number.Statement.{statement}
 use Rattle.member.proofs.halts.halt_number.Tie as tie

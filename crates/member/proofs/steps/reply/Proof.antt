@@ -5,7 +5,7 @@ use mathlib.Core.Path.{_∙_, _≡_, sym}
 use Rattle.lists.specs.Parts.{words}
 use Rattle.model.specs.Table.{memberOf}
 use Rattle.rows.specs.Meaning.{matrixIn}
-use Rattle.checks.specs.Needs.{Within}
+use Rattle.lists.specs.Functions.{Within}
 use Rattle.member.specs.Needs.{Running}
 use Rattle.member.proofs.Laws.{known-loaded, replied-failed, replied-passed}
 use Rattle.member.proofs.Sizes.{known-room}

@@ -9,7 +9,7 @@ use Rattle.model.specs.Records.{recordWithin}
 use Rattle.model.specs.Table.{blockSize, memberOf, secondAt}
 use Rattle.rows.specs.Meaning.{matrixIn}
 use Rattle.records.specs.Meaning.{recordIn}
-use Rattle.checks.specs.Needs.{Within}
+use Rattle.lists.specs.Functions.{Within}
 use Rattle.member.specs.Needs.{Running}
 use Rattle.member.proofs.Laws.{known-loaded, record-loaded, replied-failed, replied-passed}
 use Rattle.member.proofs.Sizes.{known-room}
