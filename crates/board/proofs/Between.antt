@@ -3,13 +3,10 @@ use Prim.Native.Nat.{ℕ}
 use mathlib.Core.Path.{_≡_, sym, ap, _∙_}
 use mathlib.Core.Bool.{Bool}
 use mathlib.Core.List.{List}
-use Rattle.lists.specs.Functions.{put, from, numbered, Within}
-use Rattle.lists.proofs.Functions.{numbered-blank}
-use lib.ListN.{length, replicate}
+use Rattle.lists.specs.Functions.{put, from, Within}
+use lib.ListN.{length}
 use Rattle.lists.specs.Parts.{words}
-use Rattle.lists.proofs.Parts.{words-zeros}
-use Rattle.model.specs.Records.{Rec, zeroValue, recordWithin}
-use Rattle.model.specs.RecordWords.{valueOf}
+use Rattle.model.specs.Records.{Rec, recordWithin}
 use Rattle.model.specs.Member.{Member, answered, judged, returnedBy}
 use Rattle.model.specs.Host.{Entry, submitted, wins, entryAfter, storedAfter}
 use Rattle.model.specs.Board.{Board, withMember, submitTaken, sentRecord, commitTaken}
@@ -87,10 +84,6 @@ module _ (b : Board) (i : ℕ) (after : Board) (p : Member) where
 -- a result told of equal members
 pub taken-of : {r : Outcome} {m m′ : Member} (won : Bool) → m ≡ m′ → Taken r (returnedBy m won) → Taken r (returnedBy m′ won)
 taken-of won e h = rw (← e) h
-
-pub zero-value : valueOf (words (replicate 8 0)) ≡ zeroValue
-unfolding valueOf zeroValue
-zero-value = ap (numbered 8 0) (words-zeros 8) ∙ numbered-blank 8 0
 
 -- Member i's block and the host entries, lent in turn, for an operation whose slot the board has.
 

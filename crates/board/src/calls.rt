@@ -9,7 +9,7 @@ ghost use Rattle.model.specs.Records.{zeroValue};
 ghost use Rattle.model.specs.RecordWords.{valueOf};
 ghost use Rattle.model.specs.Board.{boardDelivered, boardReturned};
 ghost use Rattle.model.specs.Runs.{begin as beginCall, deliver as deliverCall, crash as crashCall, answerOf, doneReturns};
-ghost use Rattle.model.specs.Table.{boardOf};
+ghost use Rattle.model.specs.Table.{boardBy};
 ghost use Rattle.member.specs.Results.{Taken, returnedIn};
 ghost use Rattle.board.specs.Needs.{Sound, Turn, Answered};
 ghost use Rattle.tables.specs.Needs.{Table, Left};
@@ -19,10 +19,10 @@ use crate::phases::reply_taken;
 use crate::phases::submit_taken;
 use member::Outcome;
 use member::steps::begin;
-use member::steps::begin_refusal;
+use member::steps::begin_answer_on;
 use member::steps::block_size;
-use member::steps::crash_refusal;
-use member::steps::deliver_refusal;
+use member::steps::crash_answer_on;
+use member::steps::deliver_answer_on;
 use member::steps::mark_crashed;
 use member::steps::phase_of;
 use rules::is_numbered;
@@ -44,7 +44,7 @@ pub fn begin_on(
     }
     let at = block_at(n as usize, member as usize);
     let end = at + block_size(n as usize);
-    let number = begin_refusal(&table[at..end], n, member, slot, operation);
+    let number = begin_answer_on(&table[at..end], n, member, slot, operation);
     if number != 0 {
         return number;
     }
@@ -52,34 +52,23 @@ pub fn begin_on(
     0
 }
 
-// No value, with a number.
-pub fn nothing(number: u32) -> Outcome
-    ensures { λ r. ⌜ (r .number ≡ number) × ((returnedIn r ≡ none) × (valueOf (words (r .value)) ≡ zeroValue)) ⌝ }
-{
-    Outcome {
-        number,
-        returned: false,
-        value: [0; 8],
-    }
-}
-
 // The step of a deliver that nothing refuses, by the member's phase.
 fn delivered(table: &mut [u32], n: usize, member: u32, phase: u32) -> Outcome
-    requires { ⌜ (Turn n member (now table)) × (phase ≡ boardOf n (words (now table)) .members member .phase) ⌝ }
-    ensures { λ r. ⌜ Taken r (boardReturned (boardOf n (words (now (table .entry)))) member) ⌝ }
-    ensures { λ _. ⌜ Left n (boardDelivered n (boardOf n (words (now (table .entry)))) member) (now (table .exit)) ⌝ }
+    requires { ⌜ (Turn n member (now table)) × (phase ≡ boardBy n (now table) .members member .phase) ⌝ }
+    ensures { λ r. ⌜ Taken r (boardReturned (boardBy n (now (table .entry))) member) ⌝ }
+    ensures { λ _. ⌜ Left n (boardDelivered n (boardBy n (now (table .entry))) member) (now (table .exit)) ⌝ }
 {
     if phase == 1 {
         submit_taken(table, n, member);
-        return nothing(0);
+        return Outcome::nothing(0);
     }
     if phase == 2 {
         reply_taken(table, n, member);
-        return nothing(0);
+        return Outcome::nothing(0);
     }
     if phase == 3 {
         commit_taken(table, n, member);
-        return nothing(0);
+        return Outcome::nothing(0);
     }
     outcome_taken(table, n, member, phase == 4)
 }
@@ -87,17 +76,18 @@ fn delivered(table: &mut [u32], n: usize, member: u32, phase: u32) -> Outcome
 pub fn deliver_on(table: &mut [u32], n: u32, member: u32) -> Outcome
     requires { ⌜ Sound n (now table) ⌝ }
     ensures { λ r. ⌜ Answered n (now (table .entry)) (deliverCall member) (r .number) (now (table .exit)) ⌝ }
-    ensures { λ r. ⌜ returnedIn r ≡ cond (eqb (answerOf concur n (boardOf n (words (now (table .entry)))) (deliverCall member)) 0) (doneReturns (boardOf n (words (now (table .entry)))) (deliverCall member)) none ⌝ }
+    ensures { λ r. let b = boardBy n (now (table .entry)) in
+        ⌜ returnedIn r ≡ cond (eqb (answerOf concur n b (deliverCall member)) 0) (doneReturns b (deliverCall member)) none ⌝ }
     ensures { λ r. ⌜ (r .returned ≡ false → valueOf (words (r .value)) ≡ zeroValue) ⌝ }
 {
     if !is_numbered(member, n) {
-        return nothing(4);
+        return Outcome::nothing(4);
     }
     let at = block_at(n as usize, member as usize);
     let end = at + block_size(n as usize);
-    let number = deliver_refusal(&table[at..end], n, member);
+    let number = deliver_answer_on(&table[at..end], n, member);
     if number != 0 {
-        return nothing(number);
+        return Outcome::nothing(number);
     }
     let phase = phase_of(&table[at..end], n as usize);
     delivered(table, n as usize, member, phase)
@@ -112,7 +102,7 @@ pub fn crash_on(table: &mut [u32], n: u32, member: u32) -> u32
     }
     let at = block_at(n as usize, member as usize);
     let end = at + block_size(n as usize);
-    let number = crash_refusal(&table[at..end], n, member);
+    let number = crash_answer_on(&table[at..end], n, member);
     if number == 0 {
         mark_crashed(&mut table[at..end], n as usize);
     }

@@ -45,8 +45,12 @@ pub extern "C" fn concur_board_begin(
     operation: u32,
     value: &[u32],
 ) -> u32
-    ensures { λ r. ⌜ r ≡ answerBeside (length (now (value .entry))) valueSize (now (table .entry)) (beginCall member slot operation (valueOf (words (now (value .entry))))) ⌝ }
-    ensures { λ _. ⌜ now (table .exit) ≡ afterBeside (length (now (value .entry))) valueSize (now (table .entry)) (beginCall member slot operation (valueOf (words (now (value .entry))))) ⌝ }
+    ensures { λ r. ⌜ r
+        ≡ answerBeside (length (now (value .entry))) valueSize (now (table .entry))
+        (beginCall member slot operation (valueOf (words (now (value .entry))))) ⌝ }
+    ensures { λ _. ⌜ now (table .exit)
+        ≡ afterBeside (length (now (value .entry))) valueSize (now (table .entry))
+        (beginCall member slot operation (valueOf (words (now (value .entry))))) ⌝ }
 {
     let number = table_number(table);
     if number != 0 {
@@ -62,7 +66,8 @@ pub extern "C" fn concur_board_begin(
 #[no_mangle]
 pub extern "C" fn concur_board_deliver(table: &mut [u32], member: u32, returned: &mut [u32]) -> u32
     ensures { λ r. ⌜ r ≡ answerBeside (length (now (returned .entry))) returnedSize (now (table .entry)) (deliverCall member) ⌝ }
-    ensures { λ _. ⌜ now (table .exit) ≡ afterBeside (length (now (returned .entry))) returnedSize (now (table .entry)) (deliverCall member) ⌝ }
+    ensures { λ _. ⌜ now (table .exit)
+        ≡ afterBeside (length (now (returned .entry))) returnedSize (now (table .entry)) (deliverCall member) ⌝ }
     ensures { λ _. ⌜ now (returned .exit) ≡ returnedAfter (now (returned .entry)) (now (table .entry)) (deliverCall member) ⌝ }
 {
     let number = table_number(table);

@@ -18,7 +18,6 @@ pub mod steps;
 use calls::begin_on;
 use calls::crash_on;
 use calls::deliver_on;
-use calls::nothing;
 use member::Outcome;
 use rules::MOST_MEMBERS;
 use rules::is_numbered;
@@ -44,8 +43,10 @@ pub fn open(table: &mut [u32], n: u32) -> u32
 // A member begins an operation on a slot: 1 a read, 2 a write of the value.
 pub fn begin(table: &mut [u32], member: u32, slot: u32, operation: u32, value: [u32; 8]) -> u32
     ensures { λ r. ⌜ r ≡ tableAnswer concur (now (table .entry)) (beginCall member slot operation (valueOf (words value))) ⌝ }
-    ensures { λ _. ⌜ now (table .exit) ≡ tableAfter concur (now (table .entry)) (beginCall member slot operation (valueOf (words value))) ⌝ }
-    ensures { λ _. ⌜ boardIn (now (table .exit)) ≡ tableBoard concur (now (table .entry)) (beginCall member slot operation (valueOf (words value))) ⌝ }
+    ensures { λ _. ⌜ now (table .exit)
+        ≡ tableAfter concur (now (table .entry)) (beginCall member slot operation (valueOf (words value))) ⌝ }
+    ensures { λ _. ⌜ boardIn (now (table .exit))
+        ≡ tableBoard concur (now (table .entry)) (beginCall member slot operation (valueOf (words value))) ⌝ }
 {
     let number = table_number(table);
     if number != 0 {
@@ -65,7 +66,7 @@ pub fn deliver(table: &mut [u32], member: u32) -> Outcome
 {
     let checked = table_number(table);
     if checked != 0 {
-        return nothing(checked);
+        return Outcome::nothing(checked);
     }
     let n = table[0];
     deliver_on(table, n, member)

@@ -1,8 +1,7 @@
 // Deliver, by phase: the parts of the table that the halves are lent, and what passes between them.
-ghost use Rattle.lists.specs.Parts.{words};
 ghost use Rattle.model.specs.Board.{submitTaken, replyTaken, commitTaken, outcomeTaken};
 ghost use Rattle.model.specs.Member.{returnedBy};
-ghost use Rattle.model.specs.Table.{boardOf};
+ghost use Rattle.model.specs.Table.{boardBy};
 ghost use Rattle.member.specs.Results.{Taken};
 ghost use Rattle.board.specs.Needs.{Turn};
 ghost use Rattle.tables.specs.Needs.{Left};
@@ -23,7 +22,7 @@ use tables::steps::host_at;
 // Phase 1: the host takes the submit, and the member notes the reply.
 pub fn submit_taken(table: &mut [u32], n: usize, member: u32)
     requires { ⌜ Turn n member (now table) ⌝ }
-    ensures { λ _. ⌜ Left n (submitTaken (boardOf n (words (now (table .entry)))) member) (now (table .exit)) ⌝ }
+    ensures { λ _. ⌜ Left n (submitTaken (boardBy n (now (table .entry))) member) (now (table .exit)) ⌝ }
 {
     let at = block_at(n, member as usize);
     let end = at + block_size(n);
@@ -37,7 +36,7 @@ pub fn submit_taken(table: &mut [u32], n: usize, member: u32)
 // Phase 2: the member makes its checks on the reply.
 pub fn reply_taken(table: &mut [u32], n: usize, member: u32)
     requires { ⌜ Turn n member (now table) ⌝ }
-    ensures { λ _. ⌜ Left n (replyTaken n (boardOf n (words (now (table .entry)))) member) (now (table .exit)) ⌝ }
+    ensures { λ _. ⌜ Left n (replyTaken n (boardBy n (now (table .entry))) member) (now (table .exit)) ⌝ }
 {
     let at = block_at(n, member as usize);
     let end = at + block_size(n);
@@ -47,7 +46,7 @@ pub fn reply_taken(table: &mut [u32], n: usize, member: u32)
 // Phase 3: the host takes the commit, and the member notes the verdict.
 pub fn commit_taken(table: &mut [u32], n: usize, member: u32)
     requires { ⌜ Turn n member (now table) ⌝ }
-    ensures { λ _. ⌜ Left n (commitTaken (boardOf n (words (now (table .entry)))) member) (now (table .exit)) ⌝ }
+    ensures { λ _. ⌜ Left n (commitTaken (boardBy n (now (table .entry))) member) (now (table .exit)) ⌝ }
 {
     let at = block_at(n, member as usize);
     let end = at + block_size(n);
@@ -61,8 +60,8 @@ pub fn commit_taken(table: &mut [u32], n: usize, member: u32)
 // Phases 4 and 5: the member takes the outcome.
 pub fn outcome_taken(table: &mut [u32], n: usize, member: u32, accepted: bool) -> Outcome
     requires { ⌜ Turn n member (now table) ⌝ }
-    ensures { λ r. ⌜ Taken r (returnedBy (boardOf n (words (now (table .entry))) .members member) accepted) ⌝ }
-    ensures { λ r. ⌜ Left n (outcomeTaken (boardOf n (words (now (table .entry)))) member accepted) (now (table .exit)) ⌝ }
+    ensures { λ r. ⌜ Taken r (returnedBy (boardBy n (now (table .entry)) .members member) accepted) ⌝ }
+    ensures { λ r. ⌜ Left n (outcomeTaken (boardBy n (now (table .entry))) member accepted) (now (table .exit)) ⌝ }
 {
     let at = block_at(n, member as usize);
     let end = at + block_size(n);

@@ -3,11 +3,11 @@ ghost use mathlib.Core.Path.{_≡_};
 ghost use mathlib.Core.Bool.{cond};
 ghost use Rattle.lists.specs.Parts.{words};
 ghost use Rattle.model.specs.Kinds.{becomesStored};
-ghost use Rattle.model.specs.Records.{recordWithin, opening};
+ghost use Rattle.model.specs.Records.{opening};
 ghost use Rattle.model.specs.Board.{openingEntry};
 ghost use Rattle.model.specs.Host.{submitted, wins, entryAfter, storedAfter};
-ghost use Rattle.model.specs.Table.{entryOf, storedOf, soundEntry};
-ghost use Rattle.records.specs.Meaning.{recordIn};
+ghost use Rattle.model.specs.Table.{entryIn, entryStoredIn, soundEntry};
+ghost use Rattle.records.specs.Meaning.{recordIn, recordFor};
 ghost use Rattle.host.specs.Needs.{OneEntry};
 use crate::Reply;
 use crate::layout::STORED_AT;
@@ -26,10 +26,10 @@ use rules::WRITE;
 pub fn submit_entry(entry: &mut [u32], n: usize, member: u32, count: u32) -> Reply
     requires { ⌜ OneEntry n (now entry) ⌝ }
     ensures { λ r. ⌜ r .number ≡ 0 ⌝ }
-    ensures { λ r. ⌜ recordIn (r .newest) ≡ entryOf n (words (now (entry .entry))) .newest ⌝ }
-    ensures { λ r. ⌜ recordIn (r .stored) ≡ storedOf n (words (now (entry .entry))) ⌝ }
-    ensures { λ r. ⌜ entryOf n (words (now (entry .exit))) ≡ submitted (entryOf n (words (now (entry .entry)))) member count ⌝ }
-    ensures { λ r. ⌜ storedOf n (words (now (entry .exit))) ≡ storedOf n (words (now (entry .entry))) ⌝ }
+    ensures { λ r. ⌜ recordIn (r .newest) ≡ entryIn n (now (entry .entry)) .newest ⌝ }
+    ensures { λ r. ⌜ recordIn (r .stored) ≡ entryStoredIn n (now (entry .entry)) ⌝ }
+    ensures { λ r. ⌜ entryIn n (now (entry .exit)) ≡ submitted (entryIn n (now (entry .entry))) member count ⌝ }
+    ensures { λ r. ⌜ entryStoredIn n (now (entry .exit)) ≡ entryStoredIn n (now (entry .entry)) ⌝ }
 {
     let newest = load_record(entry, newest_at(n), n);
     let stored = load_record(entry, STORED_AT, n);
@@ -45,8 +45,9 @@ pub fn submit_entry(entry: &mut [u32], n: usize, member: u32, count: u32) -> Rep
 // The entry of a commit that won: the record is the newest, for a write also the stored one, and there is no newest submit.
 fn accept(entry: &mut [u32], n: usize, committed: Record)
     requires { ⌜ OneEntry n (now entry) ⌝ }
-    ensures { λ _. ⌜ entryOf n (words (now (entry .exit))) ≡ record { submitMember = 0; submitCount = 0; newest = recordWithin n (recordIn committed) } ⌝ }
-    ensures { λ _. ⌜ storedOf n (words (now (entry .exit))) ≡ cond (becomesStored (recordIn committed)) (recordWithin n (recordIn committed)) (storedOf n (words (now (entry .entry)))) ⌝ }
+    ensures { λ _. ⌜ entryIn n (now (entry .exit)) ≡ record { submitMember = 0; submitCount = 0; newest = recordFor n committed } ⌝ }
+    ensures { λ _. ⌜ entryStoredIn n (now (entry .exit))
+        ≡ cond (becomesStored (recordIn committed)) (recordFor n committed) (entryStoredIn n (now (entry .entry))) ⌝ }
 {
     entry[SUBMIT_MEMBER_AT] = 0;
     entry[SUBMIT_COUNT_AT] = 0;
@@ -60,8 +61,8 @@ fn accept(entry: &mut [u32], n: usize, committed: Record)
 // The entry of a slot at first: as if its opening record, which is a write, had just been accepted.
 pub fn open_entry(entry: &mut [u32], n: usize, slot: u32)
     requires { ⌜ OneEntry n (now entry) ⌝ }
-    ensures { λ _. ⌜ entryOf n (words (now (entry .exit))) ≡ openingEntry slot ⌝ }
-    ensures { λ _. ⌜ storedOf n (words (now (entry .exit))) ≡ opening slot ⌝ }
+    ensures { λ _. ⌜ entryIn n (now (entry .exit)) ≡ openingEntry slot ⌝ }
+    ensures { λ _. ⌜ entryStoredIn n (now (entry .exit)) ≡ opening slot ⌝ }
 {
     accept(entry, n, Record::opening(slot));
 }
@@ -69,9 +70,10 @@ pub fn open_entry(entry: &mut [u32], n: usize, slot: u32)
 // The entry after a commit, and whether it was accepted.
 pub fn commit_entry(entry: &mut [u32], n: usize, committed: Record) -> bool
     requires { ⌜ OneEntry n (now entry) ⌝ }
-    ensures { λ r. ⌜ r ≡ wins (entryOf n (words (now (entry .entry)))) (recordIn committed) ⌝ }
-    ensures { λ r. ⌜ entryOf n (words (now (entry .exit))) ≡ entryAfter (entryOf n (words (now (entry .entry)))) (recordWithin n (recordIn committed)) ⌝ }
-    ensures { λ r. ⌜ storedOf n (words (now (entry .exit))) ≡ storedAfter (entryOf n (words (now (entry .entry)))) (storedOf n (words (now (entry .entry)))) (recordWithin n (recordIn committed)) ⌝ }
+    ensures { λ r. ⌜ r ≡ wins (entryIn n (now (entry .entry))) (recordIn committed) ⌝ }
+    ensures { λ r. ⌜ entryIn n (now (entry .exit)) ≡ entryAfter (entryIn n (now (entry .entry))) (recordFor n committed) ⌝ }
+    ensures { λ r. ⌜ entryStoredIn n (now (entry .exit))
+        ≡ storedAfter (entryIn n (now (entry .entry))) (entryStoredIn n (now (entry .entry))) (recordFor n committed) ⌝ }
 {
     if entry[SUBMIT_MEMBER_AT] != committed.member {
         return false;
@@ -86,7 +88,7 @@ pub fn commit_entry(entry: &mut [u32], n: usize, committed: Record) -> bool
 // The check of the entry.
 pub fn sound_entry(entry: &[u32], n: u32) -> bool
     requires { ⌜ OneEntry n (now entry) ⌝ }
-    ensures { λ r. ⌜ r ≡ soundEntry n (entryOf n (words (now (entry .entry)))) (storedOf n (words (now (entry .entry)))) ⌝ }
+    ensures { λ r. ⌜ r ≡ soundEntry n (entryIn n (now (entry .entry))) (entryStoredIn n (now (entry .entry))) ⌝ }
 {
     let at = newest_at(n as usize);
     if n < entry[SUBMIT_MEMBER_AT] {

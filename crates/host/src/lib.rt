@@ -2,9 +2,9 @@
 ghost use mathlib.Core.Path.{_≡_};
 ghost use mathlib.Core.Bool.{cond};
 ghost use lib.Dec.{eqb};
-ghost use Rattle.model.specs.Records.{recordWithin, zeroRecord};
+ghost use Rattle.model.specs.Records.{zeroRecord};
 ghost use Rattle.model.specs.Halves.{hostNumber, submitWords, submitNewest, submitStored, commitNumber, commitOutcome, commitWords};
-ghost use Rattle.records.specs.Meaning.{recordIn};
+ghost use Rattle.records.specs.Meaning.{recordIn, recordFor};
 
 mod entry;
 mod layout;
@@ -52,9 +52,9 @@ pub fn take_submit(
 }
 
 pub fn take_commit(entries: &mut [u32], n: u32, committed: Record) -> Verdict
-    ensures { λ r. ⌜ r .number ≡ commitNumber n (now (entries .entry)) (recordWithin n (recordIn committed)) ⌝ }
-    ensures { λ r. ⌜ r .outcome ≡ commitOutcome n (now (entries .entry)) (recordWithin n (recordIn committed)) ⌝ }
-    ensures { λ r. ⌜ now (entries .exit) ≡ commitWords n (now (entries .entry)) (recordWithin n (recordIn committed)) ⌝ }
+    ensures { λ r. ⌜ r .number ≡ commitNumber n (now (entries .entry)) (recordFor n committed) ⌝ }
+    ensures { λ r. ⌜ r .outcome ≡ commitOutcome n (now (entries .entry)) (recordFor n committed) ⌝ }
+    ensures { λ r. ⌜ now (entries .exit) ≡ commitWords n (now (entries .entry)) (recordFor n committed) ⌝ }
 {
     let number = host_number(
         entries,

@@ -2,8 +2,7 @@
 ghost use mathlib.Core.Path.{_≡_};
 ghost use Prim.Native.Nat.{_≤_};
 ghost use lib.ListN.{length};
-ghost use Rattle.lists.specs.Parts.{words};
-ghost use Rattle.model.specs.Table.{hostOf, storedRecordsOf, entriesNumber};
+ghost use Rattle.model.specs.Table.{hostIn, storedIn, entriesNumber};
 ghost use Rattle.model.specs.Halves.{hostNumber};
 use crate::steps::host_size;
 use crate::steps::sound_entries;
@@ -14,7 +13,7 @@ use rules::is_numbered;
 // 2 and 3: the entries' length and their fields.
 fn entries_number(entries: &[u32], n: u32) -> u32
     requires { ⌜ n ≤ 12 ⌝ }
-    ensures { λ r. ⌜ r ≡ entriesNumber n (length (now (entries .entry))) (hostOf n (words (now (entries .entry)))) (storedRecordsOf n (words (now (entries .entry)))) ⌝ }
+    ensures { λ r. let l = now (entries .entry) in ⌜ r ≡ entriesNumber n (length l) (hostIn n l) (storedIn n l) ⌝ }
 {
     if entries.len() != host_size(n as usize) {
         return 2;

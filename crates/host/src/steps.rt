@@ -3,11 +3,10 @@ ghost use mathlib.Core.Path.{_≡_};
 ghost use Prim.Native.Nat.{_≤_};
 ghost use Rattle.lists.specs.Functions.{put};
 ghost use Rattle.lists.specs.Parts.{words};
-ghost use Rattle.model.specs.Records.{recordWithin};
 ghost use Rattle.model.specs.Host.{submitted, wins, entryAfter, storedAfter};
 ghost use Rattle.model.specs.Board.{opened};
-ghost use Rattle.model.specs.Table.{hostSize, hostOf, storedRecordsOf, soundHost};
-ghost use Rattle.records.specs.Meaning.{recordIn};
+ghost use Rattle.model.specs.Table.{hostSize, hostIn, storedIn, soundHost};
+ghost use Rattle.records.specs.Meaning.{recordIn, recordFor};
 ghost use Rattle.host.specs.Needs.{Entries, Slot};
 use crate::Reply;
 use crate::entry::commit_entry;
@@ -29,8 +28,8 @@ pub fn host_size(n: usize) -> usize
 // The entries as they are at first: no submit, and each slot's opening record both stored and newest.
 pub fn open(entries: &mut [u32], n: u32)
     requires { ⌜ Entries n (now entries) ⌝ }
-    ensures { λ _. ⌜ hostOf n (words (now (entries .exit))) ≡ opened n .host ⌝ }
-    ensures { λ _. ⌜ storedRecordsOf n (words (now (entries .exit))) ≡ opened n .stored ⌝ }
+    ensures { λ _. ⌜ hostIn n (now (entries .exit)) ≡ opened n .host ⌝ }
+    ensures { λ _. ⌜ storedIn n (now (entries .exit)) ≡ opened n .stored ⌝ }
 {
     let size = entry_size(n as usize);
     let mut done = 0;
@@ -46,10 +45,11 @@ pub fn open(entries: &mut [u32], n: u32)
 pub fn submit(entries: &mut [u32], n: usize, member: u32, slot: u32, count: u32) -> Reply
     requires { ⌜ Slot n slot (now entries) ⌝ }
     ensures { λ r. ⌜ r .number ≡ 0 ⌝ }
-    ensures { λ r. ⌜ recordIn (r .newest) ≡ hostOf n (words (now (entries .entry))) slot .newest ⌝ }
-    ensures { λ r. ⌜ recordIn (r .stored) ≡ storedRecordsOf n (words (now (entries .entry))) slot ⌝ }
-    ensures { λ r. ⌜ hostOf n (words (now (entries .exit))) ≡ put (hostOf n (words (now (entries .entry)))) slot (submitted (hostOf n (words (now (entries .entry))) slot) member count) ⌝ }
-    ensures { λ r. ⌜ storedRecordsOf n (words (now (entries .exit))) ≡ storedRecordsOf n (words (now (entries .entry))) ⌝ }
+    ensures { λ r. ⌜ recordIn (r .newest) ≡ hostIn n (now (entries .entry)) slot .newest ⌝ }
+    ensures { λ r. ⌜ recordIn (r .stored) ≡ storedIn n (now (entries .entry)) slot ⌝ }
+    ensures { λ r. let host = hostIn n (now (entries .entry)) in
+        ⌜ hostIn n (now (entries .exit)) ≡ put host slot (submitted (host slot) member count) ⌝ }
+    ensures { λ r. ⌜ storedIn n (now (entries .exit)) ≡ storedIn n (now (entries .entry)) ⌝ }
 {
     let at = entry_place(n, slot as usize);
     let end = at + entry_size(n);
@@ -59,9 +59,14 @@ pub fn submit(entries: &mut [u32], n: usize, member: u32, slot: u32, count: u32)
 // A commit: whether it was accepted.
 pub fn commit(entries: &mut [u32], n: usize, committed: Record) -> bool
     requires { ⌜ Slot n (committed .slot) (now entries) ⌝ }
-    ensures { λ r. ⌜ r ≡ wins (hostOf n (words (now (entries .entry))) (committed .slot)) (recordIn committed) ⌝ }
-    ensures { λ r. ⌜ hostOf n (words (now (entries .exit))) ≡ put (hostOf n (words (now (entries .entry)))) (committed .slot) (entryAfter (hostOf n (words (now (entries .entry))) (committed .slot)) (recordWithin n (recordIn committed))) ⌝ }
-    ensures { λ r. ⌜ storedRecordsOf n (words (now (entries .exit))) ≡ put (storedRecordsOf n (words (now (entries .entry)))) (committed .slot) (storedAfter (hostOf n (words (now (entries .entry))) (committed .slot)) (storedRecordsOf n (words (now (entries .entry))) (committed .slot)) (recordWithin n (recordIn committed))) ⌝ }
+    ensures { λ r. ⌜ r ≡ wins (hostIn n (now (entries .entry)) (committed .slot)) (recordIn committed) ⌝ }
+    ensures { λ r. let host = hostIn n (now (entries .entry)) in
+        ⌜ hostIn n (now (entries .exit))
+        ≡ put host (committed .slot) (entryAfter (host (committed .slot)) (recordFor n committed)) ⌝ }
+    ensures { λ r. let host = hostIn n (now (entries .entry)) in
+        let stored = storedIn n (now (entries .entry)) in
+        ⌜ storedIn n (now (entries .exit))
+        ≡ put stored (committed .slot) (storedAfter (host (committed .slot)) (stored (committed .slot)) (recordFor n committed)) ⌝ }
 {
     let slot = committed.slot;
     let at = entry_place(n, slot as usize);
@@ -72,7 +77,7 @@ pub fn commit(entries: &mut [u32], n: usize, committed: Record) -> bool
 // The check of the n entries, number 3.
 pub fn sound_entries(entries: &[u32], n: u32) -> bool
     requires { ⌜ Entries n (now entries) ⌝ }
-    ensures { λ r. ⌜ r ≡ soundHost n (hostOf n (words (now (entries .entry)))) (storedRecordsOf n (words (now (entries .entry)))) ⌝ }
+    ensures { λ r. ⌜ r ≡ soundHost n (hostIn n (now (entries .entry))) (storedIn n (now (entries .entry))) ⌝ }
 {
     let size = entry_size(n as usize);
     let mut passed = 0;

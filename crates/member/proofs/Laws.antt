@@ -4,13 +4,14 @@ use native.Mathlib.Omega.{arith}
 use mathlib.Core.Path.{_≡_, refl, sym, ap, ap₂, _∙_}
 use mathlib.Core.Bool.{Bool, true, false, _&&_}
 use mathlib.Core.List.{List}
+use mathlib.Core.Option.{none}
 use lib.Dec.{eqb}
 use borrow.Author.Tests.{eq-eqb, ne-eqb}
-use lib.ListN.{take, drop, set, replicate}
+use lib.ListN.{take, drop, set}
 use Rattle.lists.specs.Functions.{put, pasted, from, within, Within}
 use Rattle.lists.specs.Parts.{words, replaced}
 use Rattle.lists.proofs.Functions.{apart, put-at, put-off, from-from, from-pasted-at}
-use Rattle.model.specs.Records.{Rec, read, write, matrixWithin, recordWithin}
+use Rattle.model.specs.Records.{Rec, read, write, zeroValue, matrixWithin, recordWithin}
 use Rattle.model.specs.RecordWords.{valueAt, matrixAt, recordSize, rowOf, matrixOf, valueOf, recordOf, recordWords}
 use Rattle.model.specs.Member.{Member, moved, haltNumber, joined, ownRecord, passed, failed, replied, completed, dropped, tookOver, returnedBy}
 use Rattle.model.specs.Board.{sentRecord}
@@ -21,10 +22,10 @@ use Rattle.laws.proofs.Steps.{Holds, holds-set, holds-copied, count-of, kept, m
 use Rattle.rows.specs.declared.Row.{Row}
 use Rattle.rows.specs.Meaning.{matrixIn}
 use Rattle.records.specs.Meaning.{recordIn}
-use Rattle.records.proofs.Laws.{zero-value}
 use Rattle.member.specs.Needs.{Block, Running}
 use Rattle.member.specs.Layout.{LayoutOf}
 use Rattle.member.specs.declared.layout.Places.{Places}
+use Rattle.member.specs.declared.Outcome.{Outcome}
 use Rattle.member.specs.Results.{Taken, returnedIn}
 
 -- the block that a step is given
@@ -161,10 +162,10 @@ pub second-value : (n : ℕ) (w : ℕ → ℕ) → valueOf (from w (secondAt n +
 unfolding memberOf recordOf
 second-value n w = ap valueOf (sym (from-from w (secondAt n) valueAt))
 
-pub none-taken : (m : Member) (won : Bool) → (won && eqb (m .operation) read) ≡ false
-    → Taken (record { number = 0; returned = false; value = replicate 8 0 }) (returnedBy m won)
-unfolding returnedBy returnedIn
-none-taken m won h = record { number = refl; value = rw h; blank = λ e. zero-value }
+pub none-taken : (m : Member) (won : Bool) → (won && eqb (m .operation) read) ≡ false → {r : Outcome}
+    → (r .number ≡ 0) × ((returnedIn r ≡ none) × (valueOf (words (r .value)) ≡ zeroValue)) → Taken r (returnedBy m won)
+unfolding returnedBy
+none-taken m won h p = record { number = p .0; value = rw h (p .1 .0); blank = λ e. p .1 .1 }
 
 pub value-taken : (m : Member) (value : List ℕ) → eqb (m .operation) read ≡ true → valueOf (words value) ≡ m .second .value
     → Taken (record { number = 0; returned = true; value = value }) (returnedBy m true)

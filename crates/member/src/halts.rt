@@ -1,8 +1,7 @@
 // The checks of a reply, in document 01's order, on the records by value and what the block knows.
 ghost use mathlib.Core.Path.{_≡_};
-ghost use Rattle.lists.specs.Parts.{words};
 ghost use Rattle.model.specs.Member.{haltNumber};
-ghost use Rattle.model.specs.Table.{memberOf};
+ghost use Rattle.model.specs.Table.{memberIn};
 ghost use Rattle.lists.specs.Functions.{Within};
 ghost use Rattle.rows.specs.Meaning.{matrixIn};
 ghost use Rattle.records.specs.Meaning.{recordIn};
@@ -29,8 +28,8 @@ pub fn halt_number(
     stored: Record,
     seals: u32,
 ) -> u32
-    requires { ⌜ (Running n (now block)) × ((Within n member) × (matrixIn known ≡ memberOf n (words (now block)) .known)) ⌝ }
-    ensures { λ r. ⌜ r ≡ haltNumber n member (memberOf n (words (now (block .entry)))) (recordIn newest) (recordIn stored) seals ⌝ }
+    requires { ⌜ (Running n (now block)) × ((Within n member) × (matrixIn known ≡ memberIn n (now block) .known)) ⌝ }
+    ensures { λ r. ⌜ r ≡ haltNumber n member (memberIn n (now (block .entry))) (recordIn newest) (recordIn stored) seals ⌝ }
 {
     let at = layout(n);
     let slot = block[SLOT_AT] as usize;

@@ -3,10 +3,12 @@ ghost use mathlib.Core.Path.{_≡_};
 ghost use Rattle.lists.specs.Parts.{words};
 ghost use Rattle.model.specs.Kinds.{concur};
 ghost use mathlib.Core.Bool.{false};
-ghost use Rattle.model.specs.Records.{zeroValue, recordWithin};
+ghost use mathlib.Core.Option.{none};
+ghost use Rattle.model.specs.Records.{zeroValue};
 ghost use Rattle.model.specs.RecordWords.{valueOf};
-ghost use Rattle.model.specs.Halves.{memberBeginNumber, memberBeginWords, replyNumber, replyWords, outcomeNumber, outcomeWords, outcomeReturns, memberCrashNumber, memberCrashWords};
-ghost use Rattle.records.specs.Meaning.{recordIn};
+ghost use Rattle.model.specs.Halves.{memberBeginNumber, memberBeginWords, replyNumber, replyWords};
+ghost use Rattle.model.specs.Halves.{outcomeNumber, outcomeWords, outcomeReturns, memberCrashNumber, memberCrashWords};
+ghost use Rattle.records.specs.Meaning.{recordFor};
 ghost use Rattle.member.specs.Results.{returnedIn};
 
 mod halts;
@@ -27,6 +29,19 @@ pub struct Outcome {
     pub number: u32,
     pub returned: bool,
     pub value: [u32; 8],
+}
+
+impl Outcome {
+    // A number, and no value.
+    pub fn nothing(number: u32) -> Outcome
+        ensures { λ r. ⌜ (r .number ≡ number) × ((returnedIn r ≡ none) × (valueOf (words (r .value)) ≡ zeroValue)) ⌝ }
+    {
+        Outcome {
+            number,
+            returned: false,
+            value: [0; 8],
+        }
+    }
 }
 
 pub fn begin(
@@ -56,8 +71,8 @@ pub fn take_reply(
     stored: Record,
     seals: u32,
 ) -> u32
-    ensures { λ r. ⌜ r ≡ replyNumber n member (now (block .entry)) (recordWithin n (recordIn newest)) (recordWithin n (recordIn stored)) seals ⌝ }
-    ensures { λ r. ⌜ now (block .exit) ≡ replyWords n member (now (block .entry)) (recordWithin n (recordIn newest)) (recordWithin n (recordIn stored)) seals ⌝ }
+    ensures { λ r. ⌜ r ≡ replyNumber n member (now (block .entry)) (recordFor n newest) (recordFor n stored) seals ⌝ }
+    ensures { λ r. ⌜ now (block .exit) ≡ replyWords n member (now (block .entry)) (recordFor n newest) (recordFor n stored) seals ⌝ }
 {
     let number = reply_number(block, n, member, newest, stored, seals);
     if number != 0 {
@@ -75,20 +90,9 @@ pub fn take_outcome(block: &mut [u32], n: u32, member: u32, result: u32) -> Outc
 {
     let number = outcome_number(block, n, member, result);
     if number != 0 {
-        return Outcome {
-            number,
-            returned: false,
-            value: [0; 8],
-        };
+        return Outcome::nothing(number);
     }
-    let done = steps::finish(block, n as usize, result == 1);
-    let returned = done.returned;
-    let value = done.value;
-    Outcome {
-        number: 0,
-        returned,
-        value,
-    }
+    steps::finish(block, n as usize, result == 1)
 }
 
 pub fn crash(block: &mut [u32], n: u32, member: u32) -> u32

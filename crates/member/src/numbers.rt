@@ -1,18 +1,16 @@
 // The numbers that refuse a call on a member's block, in document 01's order.
 ghost use mathlib.Core.Path.{_≡_};
 ghost use mathlib.Core.Bool.{cond};
-ghost use Rattle.lists.specs.Parts.{words};
 ghost use Rattle.model.specs.Kinds.{concur};
-ghost use Rattle.model.specs.Records.{recordWithin};
-ghost use Rattle.model.specs.Table.{memberOf};
+ghost use Rattle.model.specs.Table.{memberIn};
 ghost use Rattle.model.specs.Numbers.{orElse};
 ghost use Rattle.model.specs.Halves.{notWaiting, memberNumber, memberBeginNumber, replyNumber, outcomeNumber, memberCrashNumber};
-ghost use Rattle.records.specs.Meaning.{recordIn};
+ghost use Rattle.records.specs.Meaning.{recordFor};
 use crate::layout::CRASHED_AT;
 use crate::layout::PHASE_AT;
 use crate::layout::layout;
-use crate::steps::begin_refusal;
-use crate::steps::crash_refusal;
+use crate::steps::begin_answer_on;
+use crate::steps::crash_answer_on;
 use crate::steps::sound_block;
 use records::Record;
 use rules::MOST_MEMBERS;
@@ -46,12 +44,13 @@ pub fn begin_number(block: &[u32], n: u32, member: u32, slot: u32, operation: u3
     if number != 0 {
         return number;
     }
-    begin_refusal(block, n, member, slot, operation)
+    begin_answer_on(block, n, member, slot, operation)
 }
 
 // 1 to 4, and 10: the member is in another phase than the message needs, or has crashed.
 fn waiting_number(block: &[u32], n: u32, member: u32, phase: u32) -> u32
-    ensures { λ r. ⌜ r ≡ orElse (memberNumber n member (now (block .entry))) (cond (notWaiting phase (memberOf n (words (now (block .entry))))) 10 0) ⌝ }
+    ensures { λ r. let l = now (block .entry) in
+        ⌜ r ≡ orElse (memberNumber n member l) (cond (notWaiting phase (memberIn n l)) 10 0) ⌝ }
 {
     let number = member_number(block, n, member);
     if number != 0 {
@@ -74,7 +73,7 @@ pub fn reply_number(
     stored: Record,
     seals: u32,
 ) -> u32
-    ensures { λ r. ⌜ r ≡ replyNumber n member (now (block .entry)) (recordWithin n (recordIn newest)) (recordWithin n (recordIn stored)) seals ⌝ }
+    ensures { λ r. ⌜ r ≡ replyNumber n member (now (block .entry)) (recordFor n newest) (recordFor n stored) seals ⌝ }
 {
     let number = waiting_number(block, n, member, 1);
     if number != 0 {
@@ -112,5 +111,5 @@ pub fn crash_number(block: &[u32], n: u32, member: u32) -> u32
     if number != 0 {
         return number;
     }
-    crash_refusal(block, n, member)
+    crash_answer_on(block, n, member)
 }

@@ -6,12 +6,12 @@ ghost use lib.Dec.{eqb};
 ghost use lib.ListN.{length};
 ghost use Rattle.lists.specs.Functions.{from, Within};
 ghost use Rattle.lists.specs.Parts.{words};
-ghost use Rattle.model.specs.Records.{write, recordWithin};
+ghost use Rattle.model.specs.Records.{write};
 ghost use Rattle.model.specs.RecordWords.{valueOf};
 ghost use Rattle.model.specs.Member.{moved, ownRecord, passed, failed, dropped, tookOver};
-ghost use Rattle.model.specs.Table.{memberOf};
+ghost use Rattle.model.specs.Table.{memberIn};
 ghost use Rattle.rows.specs.Meaning.{matrixIn};
-ghost use Rattle.records.specs.Meaning.{recordIn};
+ghost use Rattle.records.specs.Meaning.{recordFor};
 ghost use Rattle.member.specs.Needs.{Block, Running};
 use crate::layout::HALT_AT;
 use crate::layout::OPERATION_AT;
@@ -33,7 +33,8 @@ use rules::WRITE;
 // The value that an operation carries: the given one for a write, the last accepted own one, which lies at `last`, for a read.
 pub fn carried(block: &[u32], last: usize, operation: u32, value: [u32; 8]) -> [u32; 8]
     requires { ⌜ last + 8 ≤ length (now block) ⌝ }
-    ensures { λ r. ⌜ valueOf (words r) ≡ cond (eqb operation write) (valueOf (words value)) (valueOf (from (words (now (block .entry))) last)) ⌝ }
+    ensures { λ r. ⌜ valueOf (words r)
+        ≡ cond (eqb operation write) (valueOf (words value)) (valueOf (from (words (now (block .entry))) last)) ⌝ }
 {
     if operation == WRITE {
         return value;
@@ -44,7 +45,8 @@ pub fn carried(block: &[u32], last: usize, operation: u32, value: [u32; 8]) -> [
 // Both message records and the phase written.
 pub fn note(block: &mut [u32], n: usize, phase: u32, first: Record, second: Record)
     requires { ⌜ Block n (now block) ⌝ }
-    ensures { λ _. ⌜ memberOf n (words (now (block .exit))) ≡ moved (memberOf n (words (now (block .entry)))) phase (memberOf n (words (now (block .entry))) .halt) (recordWithin n (recordIn first)) (recordWithin n (recordIn second)) ⌝ }
+    ensures { λ _. let m = memberIn n (now (block .entry)) in
+        ⌜ memberIn n (now (block .exit)) ≡ moved m phase (m .halt) (recordFor n first) (recordFor n second) ⌝ }
 {
     let at = layout(n);
     store_record(block, at.first, n, first);
@@ -55,7 +57,7 @@ pub fn note(block: &mut [u32], n: usize, phase: u32, first: Record, second: Reco
 // A reply that failed a check.
 pub fn fail(block: &mut [u32], n: usize, number: u32)
     requires { ⌜ Block n (now block) ⌝ }
-    ensures { λ _. ⌜ memberOf n (words (now (block .exit))) ≡ failed (memberOf n (words (now (block .entry)))) number ⌝ }
+    ensures { λ _. ⌜ memberIn n (now (block .exit)) ≡ failed (memberIn n (now (block .entry))) number ⌝ }
 {
     let at = layout(n);
     let messages = 2 * record_size(n);
@@ -67,7 +69,8 @@ pub fn fail(block: &mut [u32], n: usize, number: u32)
 // The first message record and the phase written; the second stays.
 fn note_first(block: &mut [u32], n: usize, phase: u32, first: Record)
     requires { ⌜ Block n (now block) ⌝ }
-    ensures { λ _. ⌜ memberOf n (words (now (block .exit))) ≡ moved (memberOf n (words (now (block .entry)))) phase (memberOf n (words (now (block .entry))) .halt) (recordWithin n (recordIn first)) (memberOf n (words (now (block .entry))) .second) ⌝ }
+    ensures { λ _. let m = memberIn n (now (block .entry)) in
+        ⌜ memberIn n (now (block .exit)) ≡ moved m phase (m .halt) (recordFor n first) (m .second) ⌝ }
 {
     let at = layout(n);
     store_record(block, at.first, n, first);
@@ -76,8 +79,8 @@ fn note_first(block: &mut [u32], n: usize, phase: u32, first: Record)
 
 // The member's own record, by the reply's newest and the known matrix.
 fn own_record(block: &[u32], n: usize, member: u32, known: [Row; 12], newest: Record) -> Record
-    requires { ⌜ (Running n (now block)) × ((Within n member) × (matrixIn known ≡ memberOf n (words (now block)) .known)) ⌝ }
-    ensures { λ r. ⌜ recordWithin n (recordIn r) ≡ ownRecord n member (memberOf n (words (now (block .entry)))) (recordWithin n (recordIn newest)) ⌝ }
+    requires { ⌜ (Running n (now block)) × ((Within n member) × (matrixIn known ≡ memberIn n (now block) .known)) ⌝ }
+    ensures { λ r. ⌜ recordFor n r ≡ ownRecord n member (memberIn n (now (block .entry))) (recordFor n newest) ⌝ }
 {
     let at = layout(n);
     let slot = block[SLOT_AT];
@@ -104,8 +107,9 @@ pub fn pass(
     newest: Record,
     stored: Record,
 )
-    requires { ⌜ (Running n (now block)) × ((Within n member) × (matrixIn known ≡ memberOf n (words (now block)) .known)) ⌝ }
-    ensures { λ _. ⌜ memberOf n (words (now (block .exit))) ≡ passed n member (memberOf n (words (now (block .entry)))) (recordWithin n (recordIn newest)) (recordWithin n (recordIn stored)) ⌝ }
+    requires { ⌜ (Running n (now block)) × ((Within n member) × (matrixIn known ≡ memberIn n (now block) .known)) ⌝ }
+    ensures { λ _. let m = memberIn n (now (block .entry)) in
+        ⌜ memberIn n (now (block .exit)) ≡ passed n member m (recordFor n newest) (recordFor n stored) ⌝ }
 {
     let own = own_record(block, n, member, known, newest);
     note(block, n, 3, own, stored);
@@ -113,8 +117,9 @@ pub fn pass(
 
 // The same where the stored record is in its place.
 pub fn pass_noted(block: &mut [u32], n: usize, member: u32, known: [Row; 12], newest: Record)
-    requires { ⌜ (Running n (now block)) × ((Within n member) × (matrixIn known ≡ memberOf n (words (now block)) .known)) ⌝ }
-    ensures { λ _. ⌜ memberOf n (words (now (block .exit))) ≡ passed n member (memberOf n (words (now (block .entry)))) (recordWithin n (recordIn newest)) (memberOf n (words (now (block .entry))) .second) ⌝ }
+    requires { ⌜ (Running n (now block)) × ((Within n member) × (matrixIn known ≡ memberIn n (now block) .known)) ⌝ }
+    ensures { λ _. let m = memberIn n (now (block .entry)) in
+        ⌜ memberIn n (now (block .exit)) ≡ passed n member m (recordFor n newest) (m .second) ⌝ }
 {
     let own = own_record(block, n, member, known, newest);
     note_first(block, n, 3, own);
@@ -123,7 +128,7 @@ pub fn pass_noted(block: &mut [u32], n: usize, member: u32, known: [Row; 12], ne
 // The end of an operation of which nothing is taken over.
 pub fn drop(block: &mut [u32], n: usize)
     requires { ⌜ Block n (now block) ⌝ }
-    ensures { λ _. ⌜ memberOf n (words (now (block .exit))) ≡ dropped (memberOf n (words (now (block .entry)))) ⌝ }
+    ensures { λ _. ⌜ memberIn n (now (block .exit)) ≡ dropped (memberIn n (now (block .entry))) ⌝ }
 {
     let at = layout(n);
     clear(block, at.pending, 8);
@@ -136,7 +141,7 @@ pub fn drop(block: &mut [u32], n: usize)
 // What an accepted operation leaves the member: its matrix, its count and, for a write, its value.
 pub fn take_over(block: &mut [u32], n: usize)
     requires { ⌜ Running n (now block) ⌝ }
-    ensures { λ _. ⌜ memberOf n (words (now (block .exit))) ≡ tookOver (memberOf n (words (now (block .entry)))) ⌝ }
+    ensures { λ _. ⌜ memberIn n (now (block .exit)) ≡ tookOver (memberIn n (now (block .entry))) ⌝ }
 {
     let at = layout(n);
     let slot = block[SLOT_AT] as usize;

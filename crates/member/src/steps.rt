@@ -2,14 +2,13 @@
 ghost use mathlib.Core.Path.{_≡_};
 ghost use Prim.Native.Nat.{_+_, _<_, _≤_, _^_};
 ghost use Rattle.lists.specs.Parts.{words};
-ghost use Rattle.model.specs.Records.{recordWithin};
 ghost use Rattle.model.specs.RecordWords.{valueOf};
 ghost use Rattle.model.specs.Member.{begun, answered, replied, judged, outcome, returnedBy, crashedOf};
 ghost use Rattle.model.specs.Kinds.{concur};
 ghost use Rattle.model.specs.Numbers.{beginAnswer, deliverAnswer, crashAnswer};
 ghost use Rattle.model.specs.Board.{sentRecord};
-ghost use Rattle.model.specs.Table.{blockSize, memberOf, soundMember};
-ghost use Rattle.records.specs.Meaning.{recordIn};
+ghost use Rattle.model.specs.Table.{blockSize, memberIn, soundMember};
+ghost use Rattle.records.specs.Meaning.{recordIn, recordFor};
 ghost use Rattle.lists.specs.Functions.{Within};
 ghost use Rattle.member.specs.Needs.{Block, Running};
 ghost use Rattle.member.specs.Results.{Taken};
@@ -63,7 +62,7 @@ pub fn block_size(n: usize) -> usize
 // The block of a member, by its numbers and its two message records.
 pub fn sound_block(block: &[u32], n: u32, member: u32) -> bool
     requires { ⌜ Block n (now block) ⌝ }
-    ensures { λ r. ⌜ r ≡ soundMember n member (memberOf n (words (now (block .entry)))) ⌝ }
+    ensures { λ r. ⌜ r ≡ soundMember n member (memberIn n (now (block .entry))) ⌝ }
 {
     let at = layout(n as usize);
     let phase = block[PHASE_AT];
@@ -90,7 +89,7 @@ pub fn sound_block(block: &[u32], n: u32, member: u32) -> bool
 // The own count of a slot; there is none, 0, outside 1 to n.
 pub fn own_count(block: &[u32], n: u32, slot: u32) -> u32
     requires { ⌜ Block n (now block) ⌝ }
-    ensures { λ r. ⌜ r ≡ memberOf n (words (now (block .entry))) .own slot ⌝ }
+    ensures { λ r. ⌜ r ≡ memberIn n (now (block .entry)) .own slot ⌝ }
 {
     if !is_numbered(slot, n) {
         return 0;
@@ -102,15 +101,16 @@ pub fn own_count(block: &[u32], n: u32, slot: u32) -> u32
 // The member's phase.
 pub fn phase_of(block: &[u32], n: usize) -> u32
     requires { ⌜ Block n (now block) ⌝ }
-    ensures { λ r. ⌜ r ≡ memberOf n (words (now (block .entry))) .phase ⌝ }
+    ensures { λ r. ⌜ r ≡ memberIn n (now (block .entry)) .phase ⌝ }
 {
     block[PHASE_AT]
 }
 
-// The numbers from 4 on of a begin, a deliver and a crash.
-pub fn begin_refusal(block: &[u32], n: u32, member: u32, slot: u32, operation: u32) -> u32
+// What a begin, a deliver and a crash are answered on a block whose own numbers passed: the numbers from 4 on.
+pub fn begin_answer_on(block: &[u32], n: u32, member: u32, slot: u32, operation: u32) -> u32
     requires { ⌜ Block n (now block) ⌝ }
-    ensures { λ r. ⌜ r ≡ beginAnswer concur n (memberOf n (words (now (block .entry))) .phase) (memberOf n (words (now (block .entry))) .crashed) (memberOf n (words (now (block .entry))) .own slot) member slot operation ⌝ }
+    ensures { λ r. let m = memberIn n (now (block .entry)) in
+        ⌜ r ≡ beginAnswer concur n (m .phase) (m .crashed) (m .own slot) member slot operation ⌝ }
 {
     let count = own_count(block, n, slot);
     begin_answer(
@@ -124,16 +124,16 @@ pub fn begin_refusal(block: &[u32], n: u32, member: u32, slot: u32, operation: u
     )
 }
 
-pub fn deliver_refusal(block: &[u32], n: u32, member: u32) -> u32
+pub fn deliver_answer_on(block: &[u32], n: u32, member: u32) -> u32
     requires { ⌜ Block n (now block) ⌝ }
-    ensures { λ r. ⌜ r ≡ deliverAnswer n (memberOf n (words (now (block .entry))) .phase) (memberOf n (words (now (block .entry))) .crashed) member ⌝ }
+    ensures { λ r. let m = memberIn n (now (block .entry)) in ⌜ r ≡ deliverAnswer n (m .phase) (m .crashed) member ⌝ }
 {
     deliver_answer(n, block[PHASE_AT], block[CRASHED_AT], member)
 }
 
-pub fn crash_refusal(block: &[u32], n: u32, member: u32) -> u32
+pub fn crash_answer_on(block: &[u32], n: u32, member: u32) -> u32
     requires { ⌜ Block n (now block) ⌝ }
-    ensures { λ r. ⌜ r ≡ crashAnswer n (memberOf n (words (now (block .entry))) .phase) (memberOf n (words (now (block .entry))) .crashed) member ⌝ }
+    ensures { λ r. let m = memberIn n (now (block .entry)) in ⌜ r ≡ crashAnswer n (m .phase) (m .crashed) member ⌝ }
 {
     crash_answer(n, block[PHASE_AT], block[CRASHED_AT], member)
 }
@@ -141,7 +141,7 @@ pub fn crash_refusal(block: &[u32], n: u32, member: u32) -> u32
 // The submit of a running operation: its slot and count.
 pub fn submit_of(block: &[u32], n: usize) -> Submit
     requires { ⌜ Running n (now block) ⌝ }
-    ensures { λ r. ⌜ (r .slot ≡ memberOf n (words (now (block .entry))) .slot) × (r .count ≡ memberOf n (words (now (block .entry))) .own (memberOf n (words (now (block .entry))) .slot)) ⌝ }
+    ensures { λ r. let m = memberIn n (now (block .entry)) in ⌜ (r .slot ≡ m .slot) × (r .count ≡ m .own (m .slot)) ⌝ }
 {
     let slot = block[SLOT_AT];
     let count = block[OWN_AT + (slot as usize) - 1];
@@ -151,7 +151,7 @@ pub fn submit_of(block: &[u32], n: usize) -> Submit
 // The record that a commit sends: the first message record's value and matrix under the block's own slot, type and count.
 pub fn commit_of(block: &[u32], n: usize, member: u32) -> Record
     requires { ⌜ Running n (now block) ⌝ }
-    ensures { λ r. ⌜ recordIn r ≡ sentRecord member (memberOf n (words (now (block .entry)))) ⌝ }
+    ensures { λ r. ⌜ recordIn r ≡ sentRecord member (memberIn n (now (block .entry))) ⌝ }
 {
     let at = layout(n);
     let slot = block[SLOT_AT];
@@ -169,8 +169,8 @@ pub fn commit_of(block: &[u32], n: usize, member: u32) -> Record
 
 // The start of an operation.
 pub fn begin(block: &mut [u32], n: usize, slot: u32, operation: u32, value: [u32; 8])
-    requires { ⌜ (Block n (now block)) × ((Within n slot) × (memberOf n (words (now block)) .own slot + 1 < 2 ^ 32)) ⌝ }
-    ensures { λ _. ⌜ memberOf n (words (now (block .exit))) ≡ begun (memberOf n (words (now (block .entry)))) slot operation (valueOf (words value)) ⌝ }
+    requires { ⌜ (Block n (now block)) × ((Within n slot) × (memberIn n (now block) .own slot + 1 < 2 ^ 32)) ⌝ }
+    ensures { λ _. ⌜ memberIn n (now (block .exit)) ≡ begun (memberIn n (now (block .entry))) slot operation (valueOf (words value)) ⌝ }
 {
     let at = layout(n);
     let pending = carried(block, at.last, operation, value);
@@ -185,7 +185,8 @@ pub fn begin(block: &mut [u32], n: usize, slot: u32, operation: u32, value: [u32
 // The host's reply, noted: phase 2.
 pub fn answer(block: &mut [u32], n: usize, newest: Record, stored: Record)
     requires { ⌜ Block n (now block) ⌝ }
-    ensures { λ _. ⌜ memberOf n (words (now (block .exit))) ≡ answered (memberOf n (words (now (block .entry)))) (recordWithin n (recordIn newest)) (recordWithin n (recordIn stored)) ⌝ }
+    ensures { λ _. let m = memberIn n (now (block .entry)) in
+        ⌜ memberIn n (now (block .exit)) ≡ answered m (recordFor n newest) (recordFor n stored) ⌝ }
 {
     note(block, n, 2, newest, stored);
 }
@@ -193,7 +194,8 @@ pub fn answer(block: &mut [u32], n: usize, newest: Record, stored: Record)
 // A reply taken: the checks, and what follows from them.
 pub fn reply(block: &mut [u32], n: usize, member: u32, newest: Record, stored: Record, seals: u32)
     requires { ⌜ (Running n (now block)) × (Within n member) ⌝ }
-    ensures { λ _. ⌜ memberOf n (words (now (block .exit))) ≡ replied n member (memberOf n (words (now (block .entry)))) (recordWithin n (recordIn newest)) (recordWithin n (recordIn stored)) seals ⌝ }
+    ensures { λ _. let m = memberIn n (now (block .entry)) in
+        ⌜ memberIn n (now (block .exit)) ≡ replied n member m (recordFor n newest) (recordFor n stored) seals ⌝ }
 {
     let at = layout(n);
     let known = load_matrix(block, at.known, n);
@@ -208,7 +210,8 @@ pub fn reply(block: &mut [u32], n: usize, member: u32, newest: Record, stored: R
 // The reply in the block's own two message records, whose seals held.
 pub fn reply_noted(block: &mut [u32], n: usize, member: u32)
     requires { ⌜ (Running n (now block)) × (Within n member) ⌝ }
-    ensures { λ _. ⌜ memberOf n (words (now (block .exit))) ≡ replied n member (memberOf n (words (now (block .entry)))) (memberOf n (words (now (block .entry))) .first) (memberOf n (words (now (block .entry))) .second) 3 ⌝ }
+    ensures { λ _. let m = memberIn n (now (block .entry)) in
+        ⌜ memberIn n (now (block .exit)) ≡ replied n member m (m .first) (m .second) 3 ⌝ }
 {
     let at = layout(n);
     let known = load_matrix(block, at.known, n);
@@ -225,7 +228,7 @@ pub fn reply_noted(block: &mut [u32], n: usize, member: u32)
 // The host's verdict, noted: phase 4 or 5.
 pub fn judge(block: &mut [u32], n: usize, won: bool)
     requires { ⌜ Block n (now block) ⌝ }
-    ensures { λ _. ⌜ memberOf n (words (now (block .exit))) ≡ judged (memberOf n (words (now (block .entry)))) won ⌝ }
+    ensures { λ _. ⌜ memberIn n (now (block .exit)) ≡ judged (memberIn n (now (block .entry))) won ⌝ }
 {
     if won {
         block[PHASE_AT] = 4;
@@ -237,16 +240,12 @@ pub fn judge(block: &mut [u32], n: usize, won: bool)
 // The outcome taken, and the value that an accepted read returns.
 pub fn finish(block: &mut [u32], n: usize, accepted: bool) -> Outcome
     requires { ⌜ Running n (now block) ⌝ }
-    ensures { λ r. ⌜ Taken r (returnedBy (memberOf n (words (now (block .entry)))) accepted) ⌝ }
-    ensures { λ r. ⌜ memberOf n (words (now (block .exit))) ≡ outcome (memberOf n (words (now (block .entry)))) accepted ⌝ }
+    ensures { λ r. ⌜ Taken r (returnedBy (memberIn n (now (block .entry))) accepted) ⌝ }
+    ensures { λ r. ⌜ memberIn n (now (block .exit)) ≡ outcome (memberIn n (now (block .entry))) accepted ⌝ }
 {
     if !accepted {
         drop(block, n);
-        return Outcome {
-            number: 0,
-            returned: false,
-            value: [0; 8],
-        };
+        return Outcome::nothing(0);
     }
     let at = layout(n);
     let value = load_value(block, at.second + VALUE_AT);
@@ -260,17 +259,13 @@ pub fn finish(block: &mut [u32], n: usize, accepted: bool) -> Outcome
             value,
         };
     }
-    Outcome {
-        number: 0,
-        returned: false,
-        value: [0; 8],
-    }
+    Outcome::nothing(0)
 }
 
 // The crash mark.
 pub fn mark_crashed(block: &mut [u32], n: usize)
     requires { ⌜ Block n (now block) ⌝ }
-    ensures { λ _. ⌜ memberOf n (words (now (block .exit))) ≡ crashedOf (memberOf n (words (now (block .entry)))) ⌝ }
+    ensures { λ _. ⌜ memberIn n (now (block .exit)) ≡ crashedOf (memberIn n (now (block .entry))) ⌝ }
 {
     block[CRASHED_AT] = 1;
 }

@@ -8,13 +8,12 @@ use mathlib.Core.Option.{Option, none}
 use lib.Dec.{eqb, leb}
 use lib.ListN.{length}
 use Rattle.lists.specs.Functions.{put, inside}
-use Rattle.lists.specs.Parts.{words}
 use Rattle.model.specs.Records.{Value, Rec}
 use Rattle.model.specs.Kinds.{Kind, isSize, fitFields}
 use Rattle.model.specs.Numbers.{orElse, fieldsNumber, beginAnswer, crashAnswer}
 use Rattle.model.specs.Member.{Member, begun, replied, outcome, returnedBy, crashedOf}
 use Rattle.model.specs.Host.{submitted, wins, entryAfter, storedAfter}
-use Rattle.model.specs.Table.{memberOf, memberWords, blockNumber, hostOf, storedRecordsOf, hostWords, entriesNumber}
+use Rattle.model.specs.Table.{memberIn, memberWords, blockNumber, hostIn, storedIn, hostWords, entriesNumber}
 
 -- "Each leaves all that was lent as before and returns only its number"
 abbrev pub unlessRefused : ℕ → List ℕ → List ℕ → List ℕ
@@ -30,17 +29,17 @@ fitRecord n r = fitFields n (r .member) (r .slot) (r .operation)
 unfoldable pub memberNumber : ℕ → ℕ → List ℕ → ℕ
 memberNumber n i l =
     orElse (cond (not (isSize n)) 1 0)
-    (orElse (blockNumber n i (length l) (memberOf n (words l)))
+    (orElse (blockNumber n i (length l) (memberIn n l))
     (cond (not (inside n i)) 4 0))
 
 unfoldable pub memberBeginNumber : Kind → ℕ → ℕ → List ℕ → ℕ → ℕ → ℕ
 memberBeginNumber kind n i l r t =
-    let m = memberOf n (words l) in
+    let m = memberIn n l in
     orElse (memberNumber n i l) (beginAnswer kind n (m .phase) (m .crashed) (m .own r) i r t)
 
 unfoldable pub memberBeginWords : Kind → ℕ → ℕ → List ℕ → ℕ → ℕ → Value → List ℕ
 memberBeginWords kind n i l r t v =
-    unlessRefused (memberBeginNumber kind n i l r t) l (memberWords n (begun (memberOf n (words l)) r t v))
+    unlessRefused (memberBeginNumber kind n i l r t) l (memberWords n (begun (memberIn n l) r t v))
 
 -- "10 .. a half in another phase than the message needs, or crashed"
 unfoldable pub notWaiting : ℕ → Member → Bool
@@ -50,39 +49,39 @@ notWaiting phase m = not (eqb (m .phase) phase) || not (eqb (m .crashed) 0)
 unfoldable pub replyNumber : ℕ → ℕ → List ℕ → Rec → Rec → ℕ → ℕ
 replyNumber n i l newest stored seals =
     orElse (memberNumber n i l)
-    (cond (notWaiting 1 (memberOf n (words l))) 10
+    (cond (notWaiting 1 (memberIn n l)) 10
     (cond (not (leb seals 3 && (fitRecord n newest && fitRecord n stored))) 15
     0))
 
 unfoldable pub replyWords : ℕ → ℕ → List ℕ → Rec → Rec → ℕ → List ℕ
 replyWords n i l newest stored seals =
-    unlessRefused (replyNumber n i l newest stored seals) l (memberWords n (replied n i (memberOf n (words l)) newest stored seals))
+    unlessRefused (replyNumber n i l newest stored seals) l (memberWords n (replied n i (memberIn n l) newest stored seals))
 
 -- an outcome is 1 accepted, 2 aborted
 unfoldable pub outcomeNumber : ℕ → ℕ → List ℕ → ℕ → ℕ
 outcomeNumber n i l result =
     orElse (memberNumber n i l)
-    (cond (notWaiting 3 (memberOf n (words l))) 10
+    (cond (notWaiting 3 (memberIn n l)) 10
     (cond (not (inside 2 result)) 15
     0))
 
 unfoldable pub outcomeWords : ℕ → ℕ → List ℕ → ℕ → List ℕ
 outcomeWords n i l result =
-    unlessRefused (outcomeNumber n i l result) l (memberWords n (outcome (memberOf n (words l)) (eqb result 1)))
+    unlessRefused (outcomeNumber n i l result) l (memberWords n (outcome (memberIn n l) (eqb result 1)))
 
 -- the value that taking an outcome hands back, or none
 unfoldable pub outcomeReturns : ℕ → ℕ → List ℕ → ℕ → Option Value
 outcomeReturns n i l result =
-    cond (eqb (outcomeNumber n i l result) 0) (returnedBy (memberOf n (words l)) (eqb result 1)) none
+    cond (eqb (outcomeNumber n i l result) 0) (returnedBy (memberIn n l) (eqb result 1)) none
 
 unfoldable pub memberCrashNumber : ℕ → ℕ → List ℕ → ℕ
 memberCrashNumber n i l =
-    let m = memberOf n (words l) in
+    let m = memberIn n l in
     orElse (memberNumber n i l) (crashAnswer n (m .phase) (m .crashed) i)
 
 unfoldable pub memberCrashWords : ℕ → ℕ → List ℕ → List ℕ
 memberCrashWords n i l =
-    unlessRefused (memberCrashNumber n i l) l (memberWords n (crashedOf (memberOf n (words l))))
+    unlessRefused (memberCrashNumber n i l) l (memberWords n (crashedOf (memberIn n l)))
 
 -- The host half, on the words l of the n host entries.
 
@@ -90,21 +89,21 @@ memberCrashWords n i l =
 unfoldable pub hostNumber : ℕ → List ℕ → ℕ → ℕ → ℕ → ℕ
 hostNumber n l i r t =
     orElse (cond (not (isSize n)) 1 0)
-    (orElse (entriesNumber n (length l) (hostOf n (words l)) (storedRecordsOf n (words l)))
+    (orElse (entriesNumber n (length l) (hostIn n l) (storedIn n l))
     (fieldsNumber n i r t))
 
 -- a submit by member i, on slot r, of type t, with its own count; the reply is the slot's newest and stored records
 unfoldable pub submitWords : ℕ → List ℕ → ℕ → ℕ → ℕ → ℕ → List ℕ
 submitWords n l i r t count =
-    let host = hostOf n (words l) in
+    let host = hostIn n l in
     unlessRefused (hostNumber n l i r t) l
-    (hostWords n (put host r (submitted (host r) i count)) (storedRecordsOf n (words l)))
+    (hostWords n (put host r (submitted (host r) i count)) (storedIn n l))
 
 unfoldable pub submitNewest : ℕ → List ℕ → ℕ → Rec
-submitNewest n l r = hostOf n (words l) r .newest
+submitNewest n l r = hostIn n l r .newest
 
 unfoldable pub submitStored : ℕ → List ℕ → ℕ → Rec
-submitStored n l r = storedRecordsOf n (words l) r
+submitStored n l r = storedIn n l r
 
 -- a commit of record c; the outcome is 1 accepted, 2 aborted, and 0 where it is refused
 unfoldable pub commitNumber : ℕ → List ℕ → Rec → ℕ
@@ -112,12 +111,12 @@ commitNumber n l c = hostNumber n l (c .member) (c .slot) (c .operation)
 
 unfoldable pub commitOutcome : ℕ → List ℕ → Rec → ℕ
 commitOutcome n l c =
-    cond (eqb (commitNumber n l c) 0) (cond (wins (hostOf n (words l) (c .slot)) c) 1 2) 0
+    cond (eqb (commitNumber n l c) 0) (cond (wins (hostIn n l (c .slot)) c) 1 2) 0
 
 unfoldable pub commitWords : ℕ → List ℕ → Rec → List ℕ
 commitWords n l c =
-    let host = hostOf n (words l) in
-    let stored = storedRecordsOf n (words l) in
+    let host = hostIn n l in
+    let stored = storedIn n l in
     let r = c .slot in
     unlessRefused (commitNumber n l c) l
     (hostWords n (put host r (entryAfter (host r) c)) (put stored r (storedAfter (host r) (stored r) c)))

@@ -141,6 +141,26 @@ boardOf n w = record {
   stored = storedRecordsOf n (from w (hostAt n));
 }
 
+-- The same of the words that a call is lent: a member's block, one entry and its stored record, the n entries, a board of n members.
+
+abbrev pub memberIn : ℕ → List ℕ → Member
+memberIn n l = memberOf n (words l)
+
+abbrev pub entryIn : ℕ → List ℕ → Entry
+entryIn n l = entryOf n (words l)
+
+abbrev pub entryStoredIn : ℕ → List ℕ → Rec
+entryStoredIn n l = storedOf n (words l)
+
+abbrev pub hostIn : ℕ → List ℕ → ℕ → Entry
+hostIn n l = hostOf n (words l)
+
+abbrev pub storedIn : ℕ → List ℕ → ℕ → Rec
+storedIn n l = storedRecordsOf n (words l)
+
+abbrev pub boardBy : ℕ → List ℕ → Board
+boardBy n l = boardOf n (words l)
+
 -- Encoders.
 
 unfoldable pub memberWords : ℕ → Member → List ℕ
@@ -202,7 +222,7 @@ tableNumber l =
     let n = words l 0 in
     cond (not (isSize n)) 3
     (cond (not (eqb (length l) (tableSize n))) 2
-    (cond (not (soundBoard n (boardOf n (words l)))) 3
+    (cond (not (soundBoard n (boardBy n l))) 3
     0))
 
 -- the halves': of a part of some length that holds member i's block, and of one that holds the n host entries

@@ -13,7 +13,7 @@ use Rattle.model.specs.Kinds.{Kind}
 use Rattle.model.specs.Numbers.{orElse}
 use Rattle.model.specs.Board.{Board, opened}
 use Rattle.model.specs.Runs.{Call, Seen, answerOf, done, doneReturns}
-use Rattle.model.specs.Table.{tableSize, blockAt, phaseAt, boardOf, tableWords, tableNumber}
+use Rattle.model.specs.Table.{tableSize, blockAt, phaseAt, boardBy, tableWords, tableNumber}
 use Rattle.model.specs.Halves.{unlessRefused}
 
 -- "Opening makes checks 1 and 2 only, since it reads none of the old words."
@@ -28,7 +28,7 @@ openWords kind n l = unlessRefused (openNumber kind n l) l (tableWords n (opened
 
 -- the board that a table holds
 unfoldable pub boardIn : List ℕ → Board
-boardIn l = boardOf (words l 0) (words l)
+boardIn l = boardBy (words l 0) l
 
 -- begin, deliver and crash: the table's own numbers, then the call's
 unfoldable pub tableAnswer : Kind → List ℕ → Call → ℕ

@@ -2,7 +2,7 @@
 use Prim.Native.Nat.{ℕ, _+_, _≤_, _<_}
 use native.Mathlib.Omega.{arith}
 use mathlib.Core.Path.{_≡_, refl, sym, ap, _∙_}
-use mathlib.Core.Bool.{true, false, cond, not, _||_}
+use mathlib.Core.Bool.{true, cond, not, _||_}
 use mathlib.Core.List.{List, [], _∷_, _++_, append-nil}
 use mathlib.Core.Option.{Option, none, some}
 use lib.Dec.{eqb}
@@ -12,7 +12,7 @@ use borrow.Author.Tests.{eq-eqb, ne-eqb}
 use Rattle.lists.specs.Functions.{put, inside, numbered}
 use Rattle.lists.specs.Parts.{words, tabulate}
 use Rattle.lists.proofs.Functions.{on}
-use Rattle.lists.proofs.Parts.{tabulate-at, words-zeros, length-replaced}
+use Rattle.lists.proofs.Parts.{tabulate-at, length-replaced}
 use Rattle.model.specs.Kinds.{concur}
 use Rattle.model.specs.Records.{Value, zeroValue}
 use Rattle.model.specs.RecordWords.{valueOf}
@@ -24,7 +24,8 @@ use Rattle.model.specs.Script.{Line, writes, reads, delivers, crashes, malforme
 use Rattle.model.specs.Script.{printedLine, lastWord, printedStep, boardLine, refusedLine}
 use Rattle.laws.proofs.Records.{valueOf-same}
 use Rattle.laws.proofs.Tables.{length-table, table-zero}
-use Rattle.runs.proofs.Words.{zero-held, last-held}
+use Rattle.runs.proofs.Words.{last-held}
+use Rattle.records.proofs.Laws.{zero-value}
 use Rattle.member.specs.declared.Outcome.{Outcome}
 use Rattle.member.specs.Results.{returnedIn}
 use Rattle.script.specs.declared.Line.{Line as LineStruct}
@@ -68,14 +69,6 @@ value-last v =
     valueOf-same (words (0 ∷ 0 ∷ 0 ∷ 0 ∷ 0 ∷ 0 ∷ 0 ∷ v ∷ [])) (λ i. put zeroValue 8 v (i + 1)) (tabulate-at 8 (λ i. put zeroValue 8 v (i + 1)))
     ∙ last-held v
 
-pub value-zero : valueOf (words (replicate 8 0)) ≡ zeroValue
-unfolding zeroValue
-value-zero = ap valueOf (words-zeros 8) ∙ zero-held
-
-pub nothing-returned : (r : Outcome) → r .returned ≡ false → returnedIn r ≡ none
-unfolding returnedIn
-nothing-returned r p = rw p
-
 -- The calls that the code makes: each returns no value but deliver.
 
 pub call-write : (kind m a : ℕ) → kind ≡ 1 → callFor kind m a ≡ begin m m 2 (valueOf (words (0 ∷ 0 ∷ 0 ∷ 0 ∷ 0 ∷ 0 ∷ 0 ∷ a ∷ [])))
@@ -84,7 +77,7 @@ call-write kind m a h = rw h (ap (begin m m 2) (sym (value-last a)))
 
 pub call-read : (kind m a : ℕ) → kind ≡ 2 → callFor kind m a ≡ begin m a 1 (valueOf (words (replicate 8 0)))
 unfolding callFor
-call-read kind m a h = rw h (ap (begin m a 1) (sym value-zero))
+call-read kind m a h = rw h (ap (begin m a 1) (sym zero-value))
 
 pub call-deliver : (kind m a : ℕ) → kind ≡ 3 → callFor kind m a ≡ deliver m
 unfolding callFor
@@ -107,11 +100,11 @@ unfolding tableReturns
 silent-returns l call h = on (eqb (tableAnswer concur l call) 0) (λ p. rw p (h (boardIn l))) (λ p. rw p)
 
 pub call-plain : (l : List ℕ) (call made : Call) → call ≡ made → ((b : Board) → doneReturns b made ≡ none)
-    → (r : Outcome) (number : ℕ) (after : List ℕ) → (r .number ≡ number) × (r .returned ≡ false)
+    → (r : Outcome) (number : ℕ) (after : List ℕ) → r .number ≡ number → returnedIn r ≡ none
     → number ≡ tableAnswer concur l made → after ≡ tableAfter concur l made
     → (r .number ≡ tableAnswer concur l call) × ((returnedIn r ≡ tableReturns concur l call) × (after ≡ tableAfter concur l call))
-call-plain l call made e h r number after p a t = rw e
-    (p .0 ∙ a, (nothing-returned r (p .1) ∙ sym (silent-returns l made h), t))
+call-plain l call made e h r number after p q a t = rw e
+    (p ∙ a, (q ∙ sym (silent-returns l made h), t))
 
 -- A step, by what its call answers.
 

@@ -1,7 +1,5 @@
 // The call that a line makes, and what is read off the table after it.
 ghost use mathlib.Core.Path.{_≡_};
-ghost use mathlib.Core.Bool.{false};
-ghost use Rattle.lists.specs.Parts.{words};
 ghost use Rattle.model.specs.Kinds.{concur};
 ghost use Rattle.model.specs.TableCalls.{tableAnswer, tableAfter, tableReturns, phaseWords};
 ghost use Rattle.member.specs.Results.{returnedIn};
@@ -16,17 +14,6 @@ use rules::is_numbered;
 use script::Line;
 use tables::steps::phase;
 
-// A call that returns no value.
-pub fn plain(number: u32) -> Outcome
-    ensures { λ r. ⌜ (r .number ≡ number) × (r .returned ≡ false) ⌝ }
-{
-    Outcome {
-        number,
-        returned: false,
-        value: [0; 8],
-    }
-}
-
 // The call of a line that has one: V of a write fills the value's last word.
 pub fn make_call(table: &mut [u32], kind: u32, member: u32, argument: u32) -> Outcome
     ensures { λ r. ⌜ r .number ≡ tableAnswer concur (now (table .entry)) (callFor kind member argument) ⌝ }
@@ -35,15 +22,15 @@ pub fn make_call(table: &mut [u32], kind: u32, member: u32, argument: u32) -> Ou
 {
     if kind == Line::WRITE {
         let value = [0, 0, 0, 0, 0, 0, 0, argument];
-        return plain(begin(table, member, member, WRITE, value));
+        return Outcome::nothing(begin(table, member, member, WRITE, value));
     }
     if kind == Line::READ {
-        return plain(begin(table, member, argument, READ, [0; 8]));
+        return Outcome::nothing(begin(table, member, argument, READ, [0; 8]));
     }
     if kind == Line::DELIVER {
         return deliver(table, member);
     }
-    plain(crash(table, member))
+    Outcome::nothing(crash(table, member))
 }
 
 // A member's phase, and 0 where there is no such member.

@@ -16,8 +16,8 @@ use crate::MOST_KEPT;
 use crate::Progress;
 use crate::calls::make_call;
 use crate::calls::phase_of;
-use crate::calls::plain;
 use crate::first::run_first;
+use member::Outcome;
 use script::Line;
 use script::parse_line;
 
@@ -27,7 +27,7 @@ pub fn no_step() -> Done
 {
     Done {
         line: Line::NONE,
-        outcome: plain(17),
+        outcome: Outcome::nothing(17),
         phase: 0,
     }
 }

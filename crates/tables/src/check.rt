@@ -1,8 +1,7 @@
 // The table's check, which every call makes on the whole table first: numbers 3, 2, 3.
 ghost use mathlib.Core.Path.{_≡_};
 ghost use Rattle.lists.specs.Functions.{each};
-ghost use Rattle.lists.specs.Parts.{words};
-ghost use Rattle.model.specs.Table.{boardOf, soundMember, soundHost, tableNumber};
+ghost use Rattle.model.specs.Table.{boardBy, soundMember, soundHost, tableNumber};
 ghost use Rattle.tables.specs.Needs.{Table};
 use crate::steps::block_at;
 use crate::steps::host_at;
@@ -17,7 +16,7 @@ use rules::is_numbered;
 // The n member blocks.
 fn sound_blocks(table: &[u32], n: u32) -> bool
     requires { ⌜ Table n (now table) ⌝ }
-    ensures { λ r. ⌜ r ≡ each n (λ i. soundMember n i (boardOf n (words (now (table .entry))) .members i)) ⌝ }
+    ensures { λ r. ⌜ r ≡ each n (λ i. soundMember n i (boardBy n (now (table .entry)) .members i)) ⌝ }
 {
     let size = block_size(n as usize);
     let mut passed = 0;
@@ -35,7 +34,7 @@ fn sound_blocks(table: &[u32], n: u32) -> bool
 // The n host entries.
 fn sound_host(table: &[u32], n: u32) -> bool
     requires { ⌜ Table n (now table) ⌝ }
-    ensures { λ r. ⌜ r ≡ soundHost n (boardOf n (words (now (table .entry))) .host) (boardOf n (words (now (table .entry))) .stored) ⌝ }
+    ensures { λ r. ⌜ r ≡ soundHost n (boardBy n (now (table .entry)) .host) (boardBy n (now (table .entry)) .stored) ⌝ }
 {
     let at = host_at(n as usize);
     let end = at + host_size(n as usize);

@@ -1,42 +1,60 @@
--- `take_outcome` meets its contract: its number refuses, and the block stays and nothing is returned; or it is 0, and the step's words are left
--- and its value returned.
+-- `take_outcome` meets its contract: a number refuses it, or the step is taken on a block whose operation has a slot.
 use borrow.Author.Needs.{needs}
-use mathlib.Core.Path.{_∙_, _≡_, sym}
-use Rattle.lists.proofs.Refusals.{becomes, stays}
+use mathlib.Core.Path.{_≡_, sym, _∙_}
+use Rattle.lists.proofs.Refusals.{stays, becomes}
 use Rattle.model.specs.Halves.{outcomeNumber, outcomeReturns, outcomeWords}
-use Rattle.records.proofs.Laws.{zero-value}
-use Rattle.member.specs.Results.{returnedIn}
+use Rattle.member.specs.Needs.{Running}
 use Rattle.member.proofs.Refusals.{outcome-good, words-made}
 use Rattle.member.proofs.take_outcome.Statement.{statement}
 use Rattle.member.proofs.take_outcome.Tie as tie
 
-abbrev start : tie.After-outcome-number → tie.Start
-start c = c .before .before .before
+-- What is known where no number refuses.
 
-taken : (c : tie.Else1) → let a = start (c .before) .args in outcomeNumber (a .n) (a .member) (a .block .now) (a .result) ≡ 0
+abbrev start : tie.Else1 → tie.Start
+start c = c .before .before .before .before
+
+taken : (c : tie.Else1) → let a = start c .args in outcomeNumber (a .n) (a .member) (a .block .now) (a .result) ≡ 0
 taken c = sym (c .before .outcome-number .ensures) ∙ c .if1 .left
 
+runs : (c : tie.Else1) → let a = start c .args in Running (a .n) (a .block .now)
+runs c = let a = start c .args in outcome-good (a .n) (a .member) (a .block .now) (a .result) (taken c)
+
+-- The needs.
+
 returns : tie.Need-returns
-unfolding outcomeReturns outcomeWords returnedIn
+unfolding outcomeReturns outcomeWords
 returns c =
-    let e = c .before .outcome-number .ensures in
-    (e, (stays _ _ e (c .if1 .taken), (stays _ _ e (c .if1 .taken), λ z. zero-value)))
+    let r = c .nothing .ensures in
+    let refused = c .before in
+    let e = refused .before .outcome-number .ensures in
+    (r .0 ∙ e, (r .1 .0 ∙ stays _ _ e (refused .if1 .taken), (stays _ _ e (refused .if1 .taken), λ z. r .1 .1)))
 
 finish-requires : tie.Need-finish-requires
-finish-requires c κs = outcome-good _ _ _ _ (taken (c .before))
+finish-requires c κs = runs (c .before)
 
 returns-2 : tie.Need-returns-2
-unfolding outcomeReturns outcomeWords returnedIn
+unfolding outcomeReturns outcomeWords
 returns-2 c =
-    let finishes = c .before .before .before in
-    let left = finishes .before .before in
-    let z = taken left in
-    let r = finishes .finish .ensures .0 in
-    let long = finishes .finish .kept .0 ∙ outcome-good _ _ _ _ z .block .long in
-    let made = words-made _ (start (left .before) .args .block .now) _ _ z long (finishes .finish .ensures .1) in
-    (sym z, (becomes _ _ z (r .value), (made, r .blank)))
+    let does = c .before .before in
+    let else1 = does .before .before in
+    let a = start else1 .args in
+    let t = does .finish .ensures in
+    let long = does .finish .kept .0 ∙ runs else1 .block .long in (
+      t .0 .number ∙ sym (taken else1),
+      (
+        becomes _ _ (taken else1) (t .0 .value),
+        (words-made (a .n) (a .block .now) (does .finish .last .0) _ (taken else1) long (t .1), t .0 .blank),
+      ),
+    )
 
 pub take-outcome-spec : {M : Type 1} → statement M
 take-outcome-spec =
     tie.close
-    (tie.spec (λ c κs. search needs) (λ c. search needs) returns finish-requires (λ c. search needs) returns-2)
+    (tie.spec
+    (λ c κs. search needs)
+    (λ c κs. search needs)
+    (λ c. search needs)
+    returns
+    finish-requires
+    (λ c. search needs)
+    returns-2)

@@ -36,15 +36,15 @@ lent : (c : tie.After-block-size) → let a = start-sized c .args in
     BlockLent (a .n) (a .member) (a .table .now) (c .before .block-at .result) (c .block-size .result)
 lent c = block-lent (start-sized c .pre) (numbered (c .before .before)) (c .before .block-at .ensures) (c .block-size .ensures)
 
-abbrev sized : tie.After-begin-refusal → tie.After-block-size
+abbrev sized : tie.After-begin-answer-on → tie.After-block-size
 sized c = c .before .before .before
 
-answered : (c : tie.After-begin-refusal) → let s = start-sized (sized c) in
-    c .begin-refusal .result ≡ answerOf concur (s .args .n) (boardOf (s .args .n) (words (s .args .table .now))) (call s)
+answered : (c : tie.After-begin-answer-on) → let s = start-sized (sized c) in
+    c .begin-answer-on .result ≡ answerOf concur (s .args .n) (boardOf (s .args .n) (words (s .args .table .now))) (call s)
 unfolding answerOf
 answered c =
     let a = start-sized (sized c) .args in
-    c .begin-refusal .ensures
+    c .begin-answer-on .ensures
     ∙ ap (λ m. beginAnswer concur (a .n) (m .phase) (m .crashed) (m .own (a .slot)) (a .member) (a .slot) (a .operation))
     (member-lent (lent (sized c)))
 
@@ -58,8 +58,8 @@ returns c =
 block-at-requires : tie.Need-block-at-requires
 block-at-requires c κs = let w = numbered c in (start c .pre .most, (w .least, w .most))
 
-begin-refusal-requires : tie.Need-begin-refusal-requires
-begin-refusal-requires c κs = whole-block (lent (c .before .before))
+begin-answer-on-requires : tie.Need-begin-answer-on-requires
+begin-answer-on-requires c κs = whole-block (lent (c .before .before))
 
 returns-2 : tie.Need-returns-2
 returns-2 c = let s = start-sized (sized (c .before)) in refuses _ _ (call s) _ (s .pre) (answered (c .before)) (c .if2 .taken)
@@ -67,7 +67,7 @@ returns-2 c = let s = start-sized (sized (c .before)) in refuses _ _ (call s) _ 
 begin-requires : tie.Need-begin-requires
 begin-requires c κs =
     let asked = c .before .before in
-    let k = begin-taken concur _ _ _ _ _ _ _ (sym (asked .begin-refusal .ensures) ∙ c .before .if2 .left) in
+    let k = begin-taken concur _ _ _ _ _ _ _ (sym (asked .begin-answer-on .ensures) ∙ c .before .if2 .left) in
     (whole-block (lent (sized asked)), (within _ _ (k .slot), count-room (k .room)))
 
 returns-3 : tie.Need-returns-3
@@ -93,7 +93,7 @@ begin-on-spec =
     (λ c. search needs)
     (λ c. search needs)
     (λ c. search needs)
-    begin-refusal-requires
+    begin-answer-on-requires
     (λ c. search needs)
     returns-2
     (λ c. search needs)

@@ -34,15 +34,15 @@ lent : (c : tie.After-block-size) → let a = start-sized c .args in
     BlockLent (a .n) (a .member) (a .table .now) (c .before .block-at .result) (c .block-size .result)
 lent c = block-lent (start-sized c .pre) (numbered (c .before .before)) (c .before .block-at .ensures) (c .block-size .ensures)
 
-abbrev sized : tie.After-crash-refusal → tie.After-block-size
+abbrev sized : tie.After-crash-answer-on → tie.After-block-size
 sized c = c .before .before .before
 
-answered : (c : tie.After-crash-refusal) → let s = start-sized (sized c) in
-    c .crash-refusal .result ≡ answerOf concur (s .args .n) (boardOf (s .args .n) (words (s .args .table .now))) (call s)
+answered : (c : tie.After-crash-answer-on) → let s = start-sized (sized c) in
+    c .crash-answer-on .result ≡ answerOf concur (s .args .n) (boardOf (s .args .n) (words (s .args .table .now))) (call s)
 unfolding answerOf
 answered c =
     let a = start-sized (sized c) .args in
-    c .crash-refusal .ensures ∙ ap (λ m. crashAnswer (a .n) (m .phase) (m .crashed) (a .member)) (member-lent (lent (sized c)))
+    c .crash-answer-on .ensures ∙ ap (λ m. crashAnswer (a .n) (m .phase) (m .crashed) (a .member)) (member-lent (lent (sized c)))
 
 -- The needs.
 
@@ -54,8 +54,8 @@ returns c =
 block-at-requires : tie.Need-block-at-requires
 block-at-requires c κs = let w = numbered c in (start c .pre .most, (w .least, w .most))
 
-crash-refusal-requires : tie.Need-crash-refusal-requires
-crash-refusal-requires c κs = whole-block (lent (c .before .before))
+crash-answer-on-requires : tie.Need-crash-answer-on-requires
+crash-answer-on-requires c κs = whole-block (lent (c .before .before))
 
 mark-crashed-requires : tie.Need-mark-crashed-requires
 mark-crashed-requires c κs = whole-block (lent (sized (c .before .before)))
@@ -66,7 +66,7 @@ unfolding done boardCrashed
 returns-2 c =
     let marks = c .before .before in
     let asked = marks .before .before .before in
-    let none : asked .crash-refusal .result ≡ 0 = omega arith in
+    let none : asked .crash-answer-on .result ≡ 0 = omega arith in
     rw none (takes _ _ (call (start-sized (sized asked))) _ (sym none ∙ answered asked)
     (step-left (lent (sized asked)) (marks .mark-crashed .last .0) (marks .mark-crashed .kept .0) crashedOf (marks .mark-crashed .ensures)))
 
@@ -87,7 +87,7 @@ crash-on-spec =
     (λ c. search needs)
     (λ c. search needs)
     (λ c. search needs)
-    crash-refusal-requires
+    crash-answer-on-requires
     (λ c. search needs)
     (λ c. search needs)
     (λ c. search needs)

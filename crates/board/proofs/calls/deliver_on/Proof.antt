@@ -32,15 +32,15 @@ lent : (c : tie.After-block-size) → let a = start-sized c .args in
     BlockLent (a .n) (a .member) (a .table .now) (c .before .block-at .result) (c .block-size .result)
 lent c = block-lent (start-sized c .pre .table) (numbered (c .before .before)) (c .before .block-at .ensures) (c .block-size .ensures)
 
-abbrev sized : tie.After-deliver-refusal → tie.After-block-size
+abbrev sized : tie.After-deliver-answer-on → tie.After-block-size
 sized c = c .before .before .before
 
-answered : (c : tie.After-deliver-refusal) → let s = start-sized (sized c) in
-    c .deliver-refusal .result ≡ answerOf concur (s .args .n) (boardOf (s .args .n) (words (s .args .table .now))) (call s)
+answered : (c : tie.After-deliver-answer-on) → let s = start-sized (sized c) in
+    c .deliver-answer-on .result ≡ answerOf concur (s .args .n) (boardOf (s .args .n) (words (s .args .table .now))) (call s)
 unfolding answerOf
 answered c =
     let a = start-sized (sized c) .args in
-    c .deliver-refusal .ensures ∙ ap (λ m. deliverAnswer (a .n) (m .phase) (m .crashed) (a .member)) (member-lent (lent (sized c)))
+    c .deliver-answer-on .ensures ∙ ap (λ m. deliverAnswer (a .n) (m .phase) (m .crashed) (a .member)) (member-lent (lent (sized c)))
 
 abbrev passed : tie.After-phase-of → tie.Else2
 passed c = c .before .before .before
@@ -57,8 +57,8 @@ returns c =
 block-at-requires : tie.Need-block-at-requires
 block-at-requires c κs = let w = numbered c in (start c .pre .table .most, (w .least, w .most))
 
-deliver-refusal-requires : tie.Need-deliver-refusal-requires
-deliver-refusal-requires c κs = whole-block (lent (c .before .before))
+deliver-answer-on-requires : tie.Need-deliver-answer-on-requires
+deliver-answer-on-requires c κs = whole-block (lent (c .before .before))
 
 returns-2 : tie.Need-returns-2
 returns-2 c =
@@ -100,7 +100,7 @@ deliver-on-spec =
     (λ c. search needs)
     (λ c. search needs)
     (λ c. search needs)
-    deliver-refusal-requires
+    deliver-answer-on-requires
     (λ c κs. search needs)
     (λ c. search needs)
     returns-2

@@ -11,14 +11,14 @@ returns : tie.Need-returns
 unfolding memberBeginNumber
 returns c = number-refuses _ (c .before .member-number .ensures) (c .if1 .taken)
 
-begin-refusal-requires : tie.Need-begin-refusal-requires
-begin-refusal-requires c κs =
+begin-answer-on-requires : tie.Need-begin-answer-on-requires
+begin-answer-on-requires c κs =
     let a = c .before .before .before .args in
     good (a .n) (a .member) (a .block .now) (sym (c .before .member-number .ensures) ∙ c .if1 .left) .block
 
 returns-2 : tie.Need-returns-2
 unfolding memberBeginNumber
-returns-2 c = number-passes (c .before .before .member-number .ensures) (c .before .if1 .left) (c .begin-refusal .ensures)
+returns-2 c = number-passes (c .before .before .member-number .ensures) (c .before .if1 .left) (c .begin-answer-on .ensures)
 
 pub begin-number-spec : {M : Type 1} → statement M
-begin-number-spec = tie.close (tie.spec (λ c κs. search needs) returns begin-refusal-requires returns-2)
+begin-number-spec = tie.close (tie.spec (λ c κs. search needs) returns begin-answer-on-requires returns-2)

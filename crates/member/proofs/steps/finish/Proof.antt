@@ -1,58 +1,64 @@
--- `finish` meets its contract: an outcome that is not accepted is dropped; else the value is read, then all is taken over and dropped, and a
--- read hands back the value.
+-- `finish` meets its contract: an aborted outcome drops the operation; an accepted one takes it over first, and returns what a read was
+-- sent, which was loaded before.
 use borrow.Author.Needs.{needs}
+use borrow.Author.Tests.{eq-eqb, ne-eqb, not-true, not-false}
+use mathlib.Core.Path.{_≡_, refl, sym, ap, _∙_}
+use mathlib.Core.Bool.{true, false}
 use native.Mathlib.Omega.{arith}
-use mathlib.Core.Bool.{false, true}
-use mathlib.Core.Path.{_∙_, _≡_, ap, refl, sym}
-use borrow.Author.Tests.{eq-eqb, ne-eqb, not-false, not-true}
 use Rattle.lists.specs.Parts.{words}
-use Rattle.model.specs.Member.{Member, completed, dropped, outcome}
-use Rattle.model.specs.Messages.{fits}
 use Rattle.model.specs.RecordWords.{recordSize, valueOf}
-use Rattle.model.specs.Table.{blockSize, memberOf}
+use Rattle.model.specs.Member.{Member, completed, dropped, outcome}
+use Rattle.model.specs.Table.{blockSize, memberOf, memberIn}
 use Rattle.laws.proofs.Blocks.{block-sum}
 use Rattle.laws.proofs.Tables.{block-small}
-use Rattle.member.proofs.Laws.{completed-by, none-taken, second-value, value-taken}
+use Rattle.member.proofs.Laws.{second-value, none-taken, value-taken, completed-by}
 use Rattle.member.proofs.steps.finish.Statement.{statement}
 use Rattle.member.proofs.steps.finish.Tie as tie
+
+-- What is known at each place of an accepted outcome, built on the place before.
 
 abbrev start : tie.Else1 → tie.Start
 start c = c .before .before
 
-abbrev member : tie.Start → Member
-member s = memberOf (s .args .n) (words (s .args .block .now))
+abbrev was : tie.Else1 → Member
+was c = memberIn (start c .args .n) (start c .args .block .now)
+
+accepted : (c : tie.Else1) → start c .args .accepted ≡ true
+accepted c = not-false _ (c .if1 .left)
 
 abbrev laid : tie.After-load-value → tie.After-layout
 laid c = c .before .before .before
 
-abbrev valued : tie.After-take-over → tie.After-load-value
-valued c = c .before .before .before
+value : (c : tie.After-load-value) → valueOf (words (c .load-value .result)) ≡ was (laid c .before) .second .value
+value c =
+    let a = start (laid c .before) .args in
+    (rw (laid c .layout .ensures .second) at (c .load-value .ensures)) ∙ second-value (a .n) (words (a .block .now))
 
--- the value that a read hands back
-value : (c : tie.After-load-value) → valueOf (words (c .load-value .result)) ≡ member (start (laid c .before)) .second .value
-value c = rw (laid c .layout .ensures .second) at (c .load-value .ensures) ∙ second-value _ _
+abbrev loaded : tie.After-take-over → tie.After-load-value
+loaded c = c .before .before .before
 
-abbrev taken : tie.After-drop2 → tie.After-take-over
-taken c = c .before .before .before .before
+abbrev over : tie.After-drop2 → tie.After-take-over
+over c = c .before .before .before .before
 
-completes : (c : tie.After-drop2) → let s = start (laid (valued (taken c)) .before) in
-    memberOf (s .args .n) (words (c .drop2 .last .0)) ≡ completed (member s)
-completes c = c .drop2 .ensures ∙ ap dropped (taken c .take-over .ensures) ∙ sym (completed-by _)
+abbrev else1 : tie.After-drop2 → tie.Else1
+else1 c = laid (loaded (over c)) .before
 
-won : (c : tie.Else1) → start c .args .accepted ≡ true
-won c = not-false _ (c .if1 .left)
+left : (c : tie.After-drop2) → memberIn (start (else1 c) .args .n) (c .drop2 .last .0) ≡ completed (was (else1 c))
+left c = c .drop2 .ensures ∙ ap dropped (over c .take-over .ensures) ∙ sym (completed-by (was (else1 c)))
+
+-- The needs.
 
 returns : tie.Need-returns
 unfolding outcome
 returns c =
-    let drops = c .before .before in
-    let s = drops .before .before .before .before in
-    rw (not-true (s .args .accepted) (drops .before .before .if1 .taken)) (none-taken (member s) false refl, drops .drop .ensures)
+    let does = c .before .before .before in
+    let a = does .before .before .before .before .args in
+    rw (not-true (a .accepted) (does .before .before .if1 .taken))
+    (none-taken (memberIn (a .n) (a .block .now)) false refl (c .nothing .ensures), does .drop .ensures)
 
 add-load-value : tie.Need-add-load-value
 unfolding blockSize
-add-load-value c =
-    let s = start (c .before .before .before) in record { fits = omega (arith, block-small (s .args .n) (s .pre .block .most)) }
+add-load-value c = let s = start (c .before .before .before) in record { fits = omega (arith, block-small (s .args .n) (s .pre .block .most)) }
 
 load-value-requires : tie.Need-load-value-requires
 unfolding blockSize recordSize
@@ -64,22 +70,20 @@ slice-read-operation c = omega (arith, block-sum (start (laid (c .before) .befor
 returns-2 : tie.Need-returns-2
 unfolding outcome memberOf
 returns-2 c =
-    let drops = c .before .before .before in
-    let v = valued (taken drops) in
-    let left = laid v .before in
-    rw (won left) (value-taken (member (start left)) (v .load-value .result) (eq-eqb _ 1 (c .if2 .taken)) (value v), completes drops)
+    let d = c .before .before .before in
+    rw (accepted (else1 d)) (value-taken (was (else1 d)) _ (eq-eqb _ 1 (c .if2 .taken)) (value (loaded (over d))), left d)
 
 returns-3 : tie.Need-returns-3
 unfolding outcome memberOf
 returns-3 c =
-    let drops = c .before .before .before in
-    let left = laid (valued (taken drops)) .before in
-    rw (won left) (none-taken (member (start left)) true (ne-eqb _ 1 (c .if2 .left)), completes drops)
+    let d = c .before .before .before .before in
+    rw (accepted (else1 d)) (none-taken (was (else1 d)) true (ne-eqb _ 1 (c .before .if2 .left)) (c .nothing2 .ensures), left d)
 
 pub finish-spec : {M : Type 1} → statement M
 finish-spec =
     tie.close
     (tie.spec
+    (λ c κs. search needs)
     (λ c κs. search needs)
     (λ c. search needs)
     returns
@@ -91,5 +95,6 @@ finish-spec =
     (λ c κs. search needs)
     (λ c. search needs)
     returns-2
+    (λ c κs. search needs)
     (λ c. search needs)
     returns-3)

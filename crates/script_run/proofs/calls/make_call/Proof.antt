@@ -24,7 +24,7 @@ returns c =
     let b = done .begin in
     call-plain (a .table .now) (call s) (begin (a .member) (a .member) 2 value)
     (call-write (a .kind) (a .member) (a .argument) (tested .if1 .taken)) (begin-silent (a .member) (a .member) 2 value)
-    (c .plain .result) (b .result) (b .last .0) (c .plain .ensures) (b .ensures .0) (b .ensures .1 .0)
+    (c .nothing .result) (b .result) (b .last .0) (c .nothing .ensures .0) (c .nothing .ensures .1 .0) (b .ensures .0) (b .ensures .1 .0)
 
 returns-2 : tie.Need-returns-2
 returns-2 c =
@@ -36,7 +36,7 @@ returns-2 c =
     let b = done .begin2 in
     call-plain (a .table .now) (call s) (begin (a .member) (a .argument) 1 value)
     (call-read (a .kind) (a .member) (a .argument) (tested .if2 .taken)) (begin-silent (a .member) (a .argument) 1 value)
-    (c .plain2 .result) (b .result) (b .last .0) (c .plain2 .ensures) (b .ensures .0) (b .ensures .1 .0)
+    (c .nothing2 .result) (b .result) (b .last .0) (c .nothing2 .ensures .0) (c .nothing2 .ensures .1 .0) (b .ensures .0) (b .ensures .1 .0)
 
 returns-3 : tie.Need-returns-3
 returns-3 c =
@@ -56,7 +56,7 @@ returns-4 c =
     let k = done .crash in
     call-plain (a .table .now) (call s) (crash (a .member))
     (call-crash (a .kind) (a .member) (a .argument) (else1 .if1 .left) (else3 .before .if2 .left) (else3 .if3 .left)) (crash-silent (a .member))
-    (c .plain3 .result) (k .result) (k .last .0) (c .plain3 .ensures) (k .ensures .0) (k .ensures .1 .0)
+    (c .nothing3 .result) (k .result) (k .last .0) (c .nothing3 .ensures .0) (c .nothing3 .ensures .1 .0) (k .ensures .0) (k .ensures .1 .0)
 
 pub make-call-spec : {M : Type 1} → statement M
 make-call-spec =

@@ -1,10 +1,10 @@
--- `deliver_refusal` meets its contract. Assumes nothing.
+-- `deliver_answer_on` meets its contract. Assumes nothing.
 use borrow.Author.Needs.{needs}
 use native.Mathlib.Omega.{arith}
 use Rattle.model.specs.Table.{memberOf}
 use Rattle.member.proofs.Sizes.{head-room}
-use Rattle.member.proofs.steps.deliver_refusal.Statement.{statement}
-use Rattle.member.proofs.steps.deliver_refusal.Tie as tie
+use Rattle.member.proofs.steps.deliver_answer_on.Statement.{statement}
+use Rattle.member.proofs.steps.deliver_answer_on.Tie as tie
 
 shared-slice-read-deliver-answer : tie.Need-shared-slice-read-deliver-answer
 shared-slice-read-deliver-answer c = omega (arith, head-room (c .before .before .args .n))
@@ -16,8 +16,8 @@ returns : tie.Need-returns
 unfolding memberOf
 returns c = c .deliver-answer .ensures
 
-pub deliver-refusal-spec : {M : Type 1} → statement M
-deliver-refusal-spec =
+pub deliver-answer-on-spec : {M : Type 1} → statement M
+deliver-answer-on-spec =
     tie.close
     (tie.spec
     shared-slice-read-deliver-answer

@@ -1,4 +1,4 @@
--- `begin_refusal` meets its contract. Assumes nothing.
+-- `begin_answer_on` meets its contract. Assumes nothing.
 use borrow.Author.Needs.{needs}
 use mathlib.Core.Path.{ap, _∙_}
 use native.Mathlib.Omega.{arith}
@@ -7,8 +7,8 @@ use Rattle.model.specs.Kinds.{concur}
 use Rattle.model.specs.Numbers.{beginAnswer}
 use Rattle.model.specs.Table.{memberOf}
 use Rattle.member.proofs.Sizes.{head-room}
-use Rattle.member.proofs.steps.begin_refusal.Statement.{statement}
-use Rattle.member.proofs.steps.begin_refusal.Tie as tie
+use Rattle.member.proofs.steps.begin_answer_on.Statement.{statement}
+use Rattle.member.proofs.steps.begin_answer_on.Tie as tie
 
 shared-slice-read-begin-answer : tie.Need-shared-slice-read-begin-answer
 shared-slice-read-begin-answer c = omega (arith, head-room (c .before .before .before .args .n))
@@ -25,8 +25,8 @@ returns c =
     ∙ ap (λ count. beginAnswer concur (a .n) (w 0) (w 1) count (a .member) (a .slot) (a .operation))
     (c .before .before .before .own-count .ensures)
 
-pub begin-refusal-spec : {M : Type 1} → statement M
-begin-refusal-spec =
+pub begin-answer-on-spec : {M : Type 1} → statement M
+begin-answer-on-spec =
     tie.close
     (tie.spec
     (λ c κs. search needs)

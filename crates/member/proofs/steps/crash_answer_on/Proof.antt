@@ -1,10 +1,10 @@
--- `crash_refusal` meets its contract. Assumes nothing.
+-- `crash_answer_on` meets its contract. Assumes nothing.
 use borrow.Author.Needs.{needs}
 use native.Mathlib.Omega.{arith}
 use Rattle.model.specs.Table.{memberOf}
 use Rattle.member.proofs.Sizes.{head-room}
-use Rattle.member.proofs.steps.crash_refusal.Statement.{statement}
-use Rattle.member.proofs.steps.crash_refusal.Tie as tie
+use Rattle.member.proofs.steps.crash_answer_on.Statement.{statement}
+use Rattle.member.proofs.steps.crash_answer_on.Tie as tie
 
 shared-slice-read-crash-answer : tie.Need-shared-slice-read-crash-answer
 shared-slice-read-crash-answer c = omega (arith, head-room (c .before .before .args .n))
@@ -16,8 +16,8 @@ returns : tie.Need-returns
 unfolding memberOf
 returns c = c .crash-answer .ensures
 
-pub crash-refusal-spec : {M : Type 1} → statement M
-crash-refusal-spec =
+pub crash-answer-on-spec : {M : Type 1} → statement M
+crash-answer-on-spec =
     tie.close
     (tie.spec
     shared-slice-read-crash-answer
