@@ -60,8 +60,10 @@ fn feed_all(
 fn take_piece(table: &mut [u32], kept: &mut [u8], p: Progress, bytes: &[u8], out: &mut [u8]) -> Turn
     requires { ⌜ (Ready p (now table) (now kept)) × (longestPrinted ≤ length (now out)) ⌝ }
     ensures { λ r. ⌜ Ready (r .progress) (now (table .exit)) (now (kept .exit)) ⌝ }
-    ensures { λ r. ⌜ FedAll p (now (table .entry)) (now (kept .entry)) (now (bytes .entry)) (r .progress) (now (table .exit)) (now (kept .exit)) ⌝ }
-    ensures { λ r. ⌜ r .more ≡ (ltb 0 (length (now (bytes .entry))) && not (over (stateOf (r .progress) (now (table .exit)) (now (kept .exit))))) ⌝ }
+    ensures { λ r. ⌜ FedAll p (now (table .entry)) (now (kept .entry)) (now (bytes .entry))
+        (r .progress) (now (table .exit)) (now (kept .exit)) ⌝ }
+    ensures { λ r. ⌜ r .more
+        ≡ (ltb 0 (length (now (bytes .entry))) && not (over (stateOf (r .progress) (now (table .exit)) (now (kept .exit))))) ⌝ }
 {
     let progress = feed_all(table, kept, p, bytes, out);
     if bytes.len() == 0 {

@@ -111,7 +111,8 @@ unfolding leadingZero
 no-leading-zero x = on (ltb x 10)
     (λ p. rw (le-ltb 1 (length (digits x)) (omega (arith, length-one x (ltb-true x 10 p)))))
     (λ p. let s : 10 ≤ x = ltb-false x 10 p in
-    fails (ltb 1 (length (digits x))) (ne-eqb (words (digits x) 0) 48 (let f = first-digit (suc x) x (omega arith) (omega arith) in omega arith)))
+    fails (ltb 1 (length (digits x)))
+    (ne-eqb (words (digits x) 0) 48 (let f = first-digit (suc x) x (omega arith) (omega arith) in omega arith)))
 
 limited-below : (x : ℕ) → x < 4294967296 → limited (some x) ≡ some x
 unfolding limited
@@ -135,8 +136,9 @@ read-only y [] x p e = append-nil (digits y) ∙ ap digits (let s : y ≡ x = cc
 read-only y (b ∷ l) x p e = on (isDigit b)
     (λ q. let low = digit-low b q in
     let high = digit-high b q in
+    let s : b ≡ digitZero + (b - digitZero) = omega arith in
     sym (append-assoc (digits y) (b ∷ []) l)
-    ∙ ap (λ m. m ++ l) (ap (λ c. digits y ++ (c ∷ [])) (let s : b ≡ digitZero + (b - digitZero) = omega arith in s) ∙ sym (digits-next y (b - digitZero) p (omega arith)))
+    ∙ ap (λ m. m ++ l) (ap (λ c. digits y ++ (c ∷ [])) s ∙ sym (digits-next y (b - digitZero) p (omega arith)))
     ∙ read-only (y * 10 + (b - digitZero)) l x (omega arith) (rw q at e))
     (λ q. let z : _≡_ {A = ℕ} 0 1 = (cc (rw q at e)) in absurd (omega arith))
 
@@ -153,7 +155,8 @@ digit-alone : (b : ℕ) → isDigit b ≡ true → digits (0 * 10 + (b - digitZe
 digit-alone b q =
     let low = digit-low b q in
     let high = digit-high b q in
-    digits-one (0 * 10 + (b - digitZero)) (omega arith) ∙ ap (λ c. c ∷ []) (let s : digitZero + (0 * 10 + (b - digitZero)) % 10 ≡ b = omega arith in s)
+    digits-one (0 * 10 + (b - digitZero)) (omega arith)
+    ∙ ap (λ c. c ∷ []) (let s : digitZero + (0 * 10 + (b - digitZero)) % 10 ≡ b = omega arith in s)
 
 -- a digit alone, or digits of which the first is no zero
 whole-read : (b : ℕ) (l : List ℕ) (x : ℕ) → leadingZero (b ∷ l) ≡ false → digitsRead 0 (b ∷ l) ≡ some x → b ∷ l ≡ digits x

@@ -11,7 +11,9 @@ use lib.ListN.{length, take, drop, length-append, length-take}
 use lib.Seq.{take-all}
 use borrow.Author.Tests.{eq-eqb, ne-eqb, eqb-true, ltb-true, ltb-false}
 use Rattle.lists.proofs.Functions.{on, first, second}
-use Rattle.model.specs.Script.{lineFeed, space, isDigit, membersWord, writeWord, readWord, deliverWord, crashWord, startsWith, before, beyond, digits, digitsRead, numberOf, Line, writes, reads, delivers, crashes, malformed, oneNumber, twoNumbers, single, double, lineOf, textOf, Bounded, firstOf, withByte, linesOf}
+use Rattle.model.specs.Script.{lineFeed, space, isDigit, membersWord, writeWord, readWord, deliverWord, crashWord, startsWith, before}
+use Rattle.model.specs.Script.{beyond, digits, digitsRead, numberOf, Line, writes, reads, delivers, crashes, malformed, oneNumber}
+use Rattle.model.specs.Script.{twoNumbers, single, double, lineOf, textOf, Bounded, firstOf, withByte, linesOf}
 use Rattle.script.specs.Meaning.{longestLine}
 use Rattle.script.proofs.Reading.{digit-low}
 use Rattle.script.proofs.Digits.{digits-read, length-some, length-ten, number-digits, number-only}
@@ -28,7 +30,8 @@ unfolding startsWith
 starts-split [] l h = refl
 starts-split (a ∷ word) [] h = let z : _≡_ {A = ℕ} 0 1 = ap (λ t. cond t 1 0) h in absurd (omega arith)
 starts-split (a ∷ word) (b ∷ l) h =
-    rw (eqb-true a b (first (eqb a b) (startsWith word l) h)) (ap (λ m. b ∷ m) (starts-split word l (second (eqb a b) (startsWith word l) h)))
+    rw (eqb-true a b (first (eqb a b) (startsWith word l) h))
+    (ap (λ m. b ∷ m) (starts-split word l (second (eqb a b) (startsWith word l) h)))
 
 -- Two numbers with a space between.
 
@@ -89,7 +92,8 @@ module _ (word : List ℕ) (line : ℕ → ℕ → Line) (l : List ℕ) (starts 
     (behind : lineOf l ≡ double line (drop (length word) l))
     (small : (x y : ℕ) → x < 4294967296 → y < 4294967296 → Bounded (line x y))
     (text : (x y : ℕ) → textOf (line x y) ≡ word ++ (digits x ++ space ∷ digits y)) where
-  two-numbers : (o p : Option ℕ) → numberOf (before space (drop (length word) l)) ≡ o → numberOf (beyond space (drop (length word) l)) ≡ p → Known l
+  two-numbers : (o p : Option ℕ) → numberOf (before space (drop (length word) l)) ≡ o → numberOf (beyond space (drop (length word) l)) ≡ p
+      → Known l
   unfolding twoNumbers
   two-numbers none p e f = inl (behind ∙ rw e)
   two-numbers (some x) none e f = inl (behind ∙ rw (e, f))
@@ -102,7 +106,8 @@ module _ (word : List ℕ) (line : ℕ → ℕ → Line) (l : List ℕ) (starts 
       inr (rw c (
         small x y (s .1) (t .1),
         text x y
-            ∙ ap (λ m. word ++ m) (ap (λ m. m ++ space ∷ digits y) (sym (s .0)) ∙ ap (λ m. before space r ++ space ∷ m) (sym (t .0)) ∙ between space r some-y)
+            ∙ ap (λ m. word ++ m)
+            (ap (λ m. m ++ space ∷ digits y) (sym (s .0)) ∙ ap (λ m. before space r ++ space ∷ m) (sym (t .0)) ∙ between space r some-y)
             ∙ starts-split word l starts,
       ))
 

@@ -11,7 +11,8 @@ use lib.Seq.{set-split, drop-drop, getD-append-add, getD-append-seam}
 use borrow.Author.Tests.{eqb-true, eqb-false, not-true, not-false}
 use Rattle.lists.specs.Functions.{put, pasted}
 use Rattle.lists.specs.Parts.{words, replaced}
-use Rattle.lists.proofs.Functions.{on, by-place, put-at, put-off, pasted-in, pasted-below, pasted-above, pasted-same, pasted-more, pasted-join}
+use Rattle.lists.proofs.Functions.{on, by-place, put-at, put-off, pasted-in, pasted-below, pasted-above, pasted-same, pasted-more}
+use Rattle.lists.proofs.Functions.{pasted-join}
 use Rattle.lists.proofs.Parts.{words-set, length-replaced, words-replaced, replaced-by}
 use Rattle.model.specs.Script.{dash, digits, orDash, field, printedLine, boardLine, refusedLine}
 use Rattle.script.specs.Meaning.{longestPrinted, given, Printed}
@@ -93,8 +94,12 @@ module _ {l m : List ℕ} {a : ℕ} {p : List ℕ} {r : ℕ} (one : Printed l m 
 
   pub printed-then : {k : List ℕ} {s : ℕ} → Printed m k r q s → Printed l k a (p ++ q) s
   printed-then two = record {
-    behind = two .behind ∙ ap (λ n. n + length q) (one .behind) ∙ (let e : a + length p + length q ≡ a + length (p ++ q) = omega (arith, length-append p q) in e);
-    bytes = two .bytes ∙ ap (λ n. replaced m n q) (one .behind) ∙ ap (λ x. replaced x (a + length p) q) (one .bytes) ∙ replaced-append l a p q fits;
+    behind =
+        two .behind ∙ ap (λ n. n + length q) (one .behind)
+        ∙ (let e : a + length p + length q ≡ a + length (p ++ q) = omega (arith, length-append p q) in e);
+    bytes =
+        two .bytes ∙ ap (λ n. replaced m n q) (one .behind) ∙ ap (λ x. replaced x (a + length p) q) (one .bytes)
+        ∙ replaced-append l a p q fits;
   }
 
 pub field-dash : (has : Bool) (x end : ℕ) → not has ≡ true → field (given has x) end ≡ dash ∷ end ∷ []

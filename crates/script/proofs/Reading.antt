@@ -13,7 +13,8 @@ use lib.Seq.{drop-cons, take-suc, take-all}
 use borrow.Author.Tests.{eq-eqb, ne-eqb, lt-ltb, le-ltb, ltb-true, ltb-false, leb-true}
 use Rattle.lists.specs.Parts.{words}
 use Rattle.lists.proofs.Functions.{on, both, first, second, fails, apart}
-use Rattle.model.specs.Script.{space, isDigit, digitZero, startsWith, before, beyond, digitsRead, limited, leadingZero, numberOf, Line, writes, reads, delivers, crashes, malformed, oneNumber, twoNumbers, single, double}
+use Rattle.model.specs.Script.{space, isDigit, digitZero, startsWith, before, beyond, digitsRead, limited, leadingZero, numberOf, Line}
+use Rattle.model.specs.Script.{writes, reads, delivers, crashes, malformed, oneNumber, twoNumbers, single, double}
 use Rattle.script.specs.Meaning.{heldNumber, heldLine, heldOne, heldTwo}
 use Rattle.script.specs.declared.Number.{Number}
 use Rattle.script.specs.declared.Line.{Line as LineStruct}
@@ -185,7 +186,8 @@ held-one kind line none h = refl
 held-one kind line (some x) h = sym (h x)
 
 held-two : (kind : ℕ) (line : ℕ → ℕ → Line) (o p : Option ℕ)
-    → ((x y : ℕ) → heldLine (line x y) ≡ record { kind = kind; member = x; argument = y }) → heldTwo kind o p ≡ heldLine (twoNumbers line o p)
+    → ((x y : ℕ) → heldLine (line x y) ≡ record { kind = kind; member = x; argument = y })
+    → heldTwo kind o p ≡ heldLine (twoNumbers line o p)
 unfolding heldTwo twoNumbers
 held-two kind line none p h = refl
 held-two kind line (some x) none h = refl
@@ -221,7 +223,8 @@ pub rest-all : (l : List ℕ) (n : ℕ) → take (length l - n) (drop n l) ≡ d
 rest-all l n = take-all (length l - n) (drop n l) (rw length-drop (le-refl (length l - n)))
 
 -- a line of a kind from the part of the text from n on
-pub one-behind : (kind n : ℕ) (line : ℕ → Line) (l : List ℕ) → ((x : ℕ) → heldLine (line x) ≡ record { kind = kind; member = x; argument = 0 })
+pub one-behind : (kind n : ℕ) (line : ℕ → Line) (l : List ℕ)
+    → ((x : ℕ) → heldLine (line x) ≡ record { kind = kind; member = x; argument = 0 })
     → heldOne kind (numberOf (take (length l - n) (drop n l))) ≡ heldLine (single line (drop n l))
 one-behind kind n line l h = rw (rest-all l n) (held-one kind line (numberOf (drop n l)) h)
 

@@ -5,19 +5,29 @@ use Rattle.model.specs.Rows.{zeroRow, zeroMatrix, below, matrixBelow, comparabl
 use Rattle.model.specs.Records.{zeroValue, opening, zeroRecord, recordWithin}
 use Rattle.model.specs.Kinds.{isOperation, barred, becomesStored}
 use Rattle.model.specs.Numbers.{fieldsNumber, beginAnswer, deliverAnswer, crashAnswer}
-use Rattle.model.specs.Member.{idle, begun, answered, check21, check22, check23, check24, check25, check26, check27, haltNumber, joined, ownRecord, passed, failed, replied, judged, completed, tookOver, dropped, outcome, returnedBy, crashedOf}
+use Rattle.model.specs.Member.{idle, begun, answered, check21, check22, check23, check24, check25, check26, check27, haltNumber, joined}
+use Rattle.model.specs.Member.{ownRecord, passed, failed, replied, judged, completed, tookOver, dropped, outcome, returnedBy, crashedOf}
 use Rattle.model.specs.Host.{submitted, wins, entryAfter, storedAfter}
-use Rattle.model.specs.Board.{noEntry, openingEntry, opened, withMember, boardBegun, submitTaken, replyTaken, sentRecord, commitTaken, outcomeTaken, boardDelivered, boardReturned, boardCrashed}
+use Rattle.model.specs.Board.{noEntry, openingEntry, opened, withMember, boardBegun, submitTaken, replyTaken, sentRecord, commitTaken}
+use Rattle.model.specs.Board.{outcomeTaken, boardDelivered, boardReturned, boardCrashed}
 use Rattle.model.specs.Runs.{answerOf, done, doneReturns, after, seenAt, run}
 use Rattle.model.specs.RecordWords.{recordSize, rowOf, matrixOf, valueOf, recordOf, matrixWord, recordWords}
-use Rattle.model.specs.Table.{acceptedAt, lastAt, pendingAt, knownAt, firstAt, secondAt, blockSize, newestAt, entrySize, hostSize, blockAt, hostAt, entryAt, tableSize, memberOf, entryOf, storedOf, membersOf, hostOf, storedRecordsOf, boardOf, memberWords, entryWords, hostWords, tableWords, soundRecord, soundOperation, soundMember, soundEntry, soundHost, soundBoard, tableNumber, blockNumber, entriesNumber}
-use Rattle.model.specs.Halves.{fitRecord, memberNumber, memberBeginNumber, memberBeginWords, notWaiting, replyNumber, replyWords, outcomeNumber, outcomeWords, outcomeReturns, memberCrashNumber, memberCrashWords, hostNumber, submitWords, submitNewest, submitStored, commitNumber, commitOutcome, commitWords}
+use Rattle.model.specs.Table.{acceptedAt, lastAt, pendingAt, knownAt, firstAt, secondAt, blockSize, newestAt, entrySize, hostSize}
+use Rattle.model.specs.Table.{blockAt, hostAt, entryAt, tableSize, memberOf, entryOf, storedOf, membersOf, hostOf, storedRecordsOf}
+use Rattle.model.specs.Table.{boardOf, memberWords, entryWords, hostWords, tableWords, soundRecord, soundOperation, soundMember}
+use Rattle.model.specs.Table.{soundEntry, soundHost, soundBoard, tableNumber, blockNumber, entriesNumber}
+use Rattle.model.specs.Halves.{fitRecord, memberNumber, memberBeginNumber, memberBeginWords, notWaiting, replyNumber, replyWords}
+use Rattle.model.specs.Halves.{outcomeNumber, outcomeWords, outcomeReturns, memberCrashNumber, memberCrashWords, hostNumber, submitWords}
+use Rattle.model.specs.Halves.{submitNewest, submitStored, commitNumber, commitOutcome, commitWords}
 use Rattle.model.specs.TableCalls.{openNumber, openWords, boardIn, tableAnswer, tableAfter, tableReturns, phaseWords, tableSeen, tableRun}
 use Rattle.lists.specs.Functions.{put, pasted, from, inside, within, numbered, each}
 use Rattle.lists.specs.Parts.{tabulate}
 use Rattle.lists.specs.Pieces.{place, pieces, laid}
-use Rattle.model.specs.Script.{isDigit, startsWith, before, beyond, digitsWithin, digits, digitsRead, limited, leadingZero, numberOf, oneNumber, twoNumbers, lineOf, textOf, firstOf, callOf, caller, stepped, stepLine, stepsFrom, withByte, linesOf}
-use Rattle.model.specs.Script.{boardRun, linesRun, scriptRun, orDash, printedLine, lastWord, printedStep, printedSteps, boardLine, refusedLine, printedRun, scriptOutput}
+use Rattle.model.specs.Script.{isDigit, startsWith, before, beyond, digitsWithin, digits, digitsRead, limited, leadingZero, numberOf}
+use Rattle.model.specs.Script.{oneNumber, twoNumbers, lineOf, textOf, firstOf, callOf, caller, stepped, stepLine, stepsFrom, withByte}
+use Rattle.model.specs.Script.{linesOf}
+use Rattle.model.specs.Script.{boardRun, linesRun, scriptRun, orDash, printedLine, lastWord, printedStep, printedSteps, boardLine}
+use Rattle.model.specs.Script.{refusedLine, printedRun, scriptOutput}
 use Rattle.script.specs.Examples.{Holds, examples}
 
 pub every-example : Every Holds examples

@@ -1,8 +1,10 @@
 // Lines printed, for the program: each function asks for the room that it needs, writes from `at` on, and returns the place behind.
 ghost use mathlib.Core.Path.{_≡_};
 ghost use Prim.Native.Nat.{_+_, _%_, _≤_};
+ghost use mathlib.Core.List.{_++_};
+ghost use mathlib.Core.Option.{some};
 ghost use lib.ListN.{length};
-ghost use Rattle.model.specs.Script.{digitZero, digits, field, printedLine, boardLine, refusedLine};
+ghost use Rattle.model.specs.Script.{digitZero, lineFeed, digits, field, printedLine, boardLine, refusedLine};
 ghost use Rattle.script.specs.Meaning.{given, Printed};
 
 // How many digits a number has.
@@ -90,13 +92,21 @@ pub fn print_line(
     print_field(out, fourth, returned, value, b'\n')
 }
 
+// A word, a number and the end of the line.
+fn print_worded(out: &mut [u8], at: usize, word: &[u8], x: u32) -> usize
+    requires { ⌜ at + length (now word ++ field (some x) lineFeed) ≤ length (now out) ⌝ }
+    ensures { λ r. ⌜ Printed (now (out .entry)) (now (out .exit)) at (now (word .entry) ++ field (some x) lineFeed) r ⌝ }
+{
+    let next = print_bytes(out, at, word);
+    print_field(out, next, true, x, b'\n')
+}
+
 // The first line: the board's n.
 pub fn print_board(out: &mut [u8], at: usize, n: u32) -> usize
     requires { ⌜ at + length (boardLine n) ≤ length (now out) ⌝ }
     ensures { λ r. ⌜ Printed (now (out .entry)) (now (out .exit)) at (boardLine n) r ⌝ }
 {
-    let next = print_bytes(out, at, b"board ");
-    print_field(out, next, true, n, b'\n')
+    print_worded(out, at, b"board ", n)
 }
 
 // The one line where the first line of the script was refused.
@@ -104,6 +114,5 @@ pub fn print_refused(out: &mut [u8], at: usize, number: u32) -> usize
     requires { ⌜ at + length (refusedLine number) ≤ length (now out) ⌝ }
     ensures { λ r. ⌜ Printed (now (out .entry)) (now (out .exit)) at (refusedLine number) r ⌝ }
 {
-    let next = print_bytes(out, at, b"board refused ");
-    print_field(out, next, true, number, b'\n')
+    print_worded(out, at, b"board refused ", number)
 }

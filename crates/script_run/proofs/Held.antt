@@ -31,7 +31,7 @@ use Rattle.member.specs.Results.{returnedIn}
 use Rattle.script.specs.declared.Line.{Line as LineStruct}
 use Rattle.script.specs.Meaning.{heldLine, given, Printed}
 use Rattle.script_run.specs.Feeding.{Event, printedEvent, printedEvents}
-use Rattle.script_run.specs.Meaning.{callFor, Shows, StepHeld, eventsOf, EventsHeld, Whole, Wrote}
+use Rattle.script_run.specs.Meaning.{callFor, callBy, Shows, StepHeld, eventsOf, EventsHeld, Whole, Wrote}
 use Rattle.script_run.specs.declared.Done.{Done}
 use Rattle.script_run.specs.declared.Event.{Event as EventStruct}
 
@@ -45,7 +45,8 @@ no-call (delivers m) h = absurd (omega arith)
 no-call (crashes m) h = absurd (omega arith)
 no-call malformed h = refl
 
-some-call : (l : Line) → (heldLine l .kind ≡ 0 → ⊥) → callOf l ≡ some (callFor (heldLine l .kind) (heldLine l .member) (heldLine l .argument))
+some-call : (l : Line) → (heldLine l .kind ≡ 0 → ⊥)
+    → callOf l ≡ some (callFor (heldLine l .kind) (heldLine l .member) (heldLine l .argument))
 unfolding heldLine callOf callFor
 some-call (writes m v) h = refl
 some-call (reads m r) h = refl
@@ -66,7 +67,8 @@ caller-for kind m a = on (eqb kind 1)
 pub value-last : (v : ℕ) → valueOf (words (0 ∷ 0 ∷ 0 ∷ 0 ∷ 0 ∷ 0 ∷ 0 ∷ v ∷ [])) ≡ put zeroValue 8 v
 unfolding tabulate put zeroValue
 value-last v =
-    valueOf-same (words (0 ∷ 0 ∷ 0 ∷ 0 ∷ 0 ∷ 0 ∷ 0 ∷ v ∷ [])) (λ i. put zeroValue 8 v (i + 1)) (tabulate-at 8 (λ i. put zeroValue 8 v (i + 1)))
+    valueOf-same (words (0 ∷ 0 ∷ 0 ∷ 0 ∷ 0 ∷ 0 ∷ 0 ∷ v ∷ [])) (λ i. put zeroValue 8 v (i + 1))
+    (tabulate-at 8 (λ i. put zeroValue 8 v (i + 1)))
     ∙ last-held v
 
 -- The calls that the code makes: each returns no value but deliver.
@@ -113,25 +115,14 @@ module _ (table line : List ℕ) (read : LineStruct) (e : read ≡ heldLine (lin
   unfolding stepLine stepped
   step-malformed k = rw (no-call (lineOf line) (ap (λ r. r .kind) (sym e) ∙ k))
 
-  module _ (k : read .kind ≡ 0 → ⊥) where
-    made : Call
-    made = callFor (read .kind) (read .member) (read .argument)
-
-    line-made : callOf (lineOf line) ≡ some made
-    unfolding made
-    line-made =
-        some-call (lineOf line) (λ h. k (ap (λ r. r .kind) e ∙ h)) ∙ ap (λ r. some (callFor (r .kind) (r .member) (r .argument))) (sym e)
-
-    pub step-made : stepLine concur table line ≡ record {
-      table = tableAfter concur table (callFor (read .kind) (read .member) (read .argument));
-      happened = some (step (callFor (read .kind) (read .member) (read .argument)) (tableSeen concur table (callFor (read .kind) (read .member) (read .argument))));
-    }
-    unfolding stepLine stepped made
-    step-made = rw line-made
+  pub step-made : (read .kind ≡ 0 → ⊥) → stepLine concur table line
+      ≡ record { table = tableAfter concur table (callBy read); happened = some (step (callBy read) (tableSeen concur table (callBy read))) }
+  unfolding stepLine stepped
+  step-made k = rw (some-call (lineOf line) (λ h. k (ap (λ r. r .kind) e ∙ h)) ∙ ap (λ r. some (callBy r)) (sym e))
 
 -- What was seen at the call of a line, as it is held.
 pub call-shown : (table : List ℕ) (read : LineStruct) (call : Call) (outcome : Outcome) (after : List ℕ) (phase : ℕ)
-    → 0 < read .kind → call ≡ callFor (read .kind) (read .member) (read .argument)
+    → 0 < read .kind → call ≡ callBy read
     → outcome .number ≡ tableAnswer concur table call → returnedIn outcome ≡ tableReturns concur table call
     → after ≡ tableAfter concur table call → phase ≡ phaseWords after (read .member)
     → Shows (record { line = read; outcome = outcome; phase = phase }) call (tableSeen concur table call)
@@ -226,7 +217,8 @@ wrote {before} {after} {place} {text} {next} p h = record {
 }
 
 -- what stands at the front of the output after a text was written behind what stood there
-pub wrote-front : {before after : List ℕ} {place : ℕ} {text : List ℕ} {next : ℕ} → Wrote before after place text next → place ≤ length before
+pub wrote-front : {before after : List ℕ} {place : ℕ} {text : List ℕ} {next : ℕ} → Wrote before after place text next
+    → place ≤ length before
     → take next after ≡ take place before ++ text
 wrote-front {before} {after} {place} {text} {next} w h =
     let head : length (take place before) ≡ place = length-take-le place before h in

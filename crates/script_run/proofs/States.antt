@@ -18,7 +18,8 @@ use Rattle.model.specs.Board.{opened}
 use Rattle.model.specs.Table.{tableWords}
 use Rattle.model.specs.Script.{firstOf, stepLine, mostSteps}
 use Rattle.script.specs.Meaning.{longestPrinted}
-use Rattle.script_run.specs.Feeding.{State, Event, refuses, opens, steps, Fed, mostKept, overStep, over, start, keep, ended, firstRun, stepRun, lineRun}
+use Rattle.script_run.specs.Feeding.{State, Event, refuses, opens, steps, Fed, mostKept, overStep, over, start, keep, ended}
+use Rattle.script_run.specs.Feeding.{firstRun, stepRun, lineRun}
 use Rattle.script_run.specs.Feeding.{silent, byteFed, fed, lastEvents, printedEvents}
 use Rattle.script_run.specs.Meaning.{eventsOf, EventsHeld, Whole, mostWords, stateOf, Ready, Ran, Took, Wrote, FedInto}
 use Rattle.script_run.specs.declared.Progress.{Progress}
@@ -31,7 +32,8 @@ use Rattle.script_run.proofs.Held.{wrote-front}
 
 -- The definitions by their tests.
 
-pub first-inside : (table : List ℕ) (n : ℕ) → inside 12 n ≡ true → firstRun concur table (some n) ≡ ended 1 (tableWords n (opened n)) (opens n)
+pub first-inside : (table : List ℕ) (n : ℕ) → inside 12 n ≡ true
+    → firstRun concur table (some n) ≡ ended 1 (tableWords n (opened n)) (opens n)
 unfolding firstRun
 first-inside table n h = rw h
 
@@ -212,7 +214,8 @@ rest-long l a h = length-take-le (length l - a) (drop a l) (rw length-drop (omeg
 
 -- Bytes that were fed, i of them, and then j of the rest as it is lent.
 
-lent-more : (bytes : List ℕ) (i j : ℕ) → i + j ≤ length bytes → take (i + j) bytes ≡ take i bytes ++ take j (take (length bytes - i) (drop i bytes))
+lent-more : (bytes : List ℕ) (i j : ℕ) → i + j ≤ length bytes
+    → take (i + j) bytes ≡ take i bytes ++ take j (take (length bytes - i) (drop i bytes))
 lent-more bytes i j h =
     take-add i j bytes ∙ ap (λ l. take i bytes ++ l) (sym (take-take j (length bytes - i) (drop i bytes) (omega arith)))
 
@@ -225,7 +228,8 @@ fed-then s bytes i j t h e =
     let rest = take j (take (length bytes - i) (drop i bytes)) in
     ap (fed concur s) (lent-more bytes i j h)
     ∙ fed-append concur s (take i bytes) rest
-    ∙ ap (λ u. record { state = fed concur u rest .state; events = fed concur s (take i bytes) .events ++ fed concur u rest .events }) (sym e)
+    ∙ ap (λ u. record { state = fed concur u rest .state; events = fed concur s (take i bytes) .events ++ fed concur u rest .events })
+    (sym e)
 
 -- a line more, and what it prints behind what was printed
 pub fed-into-more : (p : Progress) (table₀ kept₀ bytes : List ℕ) (w : Written) (table kept out : List ℕ)
@@ -256,11 +260,13 @@ fed-into-more p table₀ kept₀ bytes w table kept out f r table′ kept′ out
 
 -- A script that has not begun, on lent words and bytes of the right lengths.
 
-pub start-ready : (table kept : List ℕ) → length table ≡ mostWords → length kept ≡ mostKept → Ready (record { step = 0; size = 0; kept = 0 }) table kept
+pub start-ready : (table kept : List ℕ) → length table ≡ mostWords → length kept ≡ mostKept
+    → Ready (record { step = 0; size = 0; kept = 0 }) table kept
 start-ready table kept l m = record { room = l; keeps = m; line = omega arith; size = omega arith; whole = λ a b. absurd (omega arith) }
 
 -- a script that is over
-pub over-ready : (table kept : List ℕ) → length table ≡ mostWords → length kept ≡ mostKept → Ready (record { step = overStep; size = 0; kept = 0 }) table kept
+pub over-ready : (table kept : List ℕ) → length table ≡ mostWords → length kept ≡ mostKept
+    → Ready (record { step = overStep; size = 0; kept = 0 }) table kept
 over-ready table kept l m = record { room = l; keeps = m; line = omega arith; size = omega arith; whole = λ a b. absurd (omega arith) }
 
 pub over-held : (table kept : List ℕ) → over (stateOf (record { step = overStep; size = 0; kept = 0 }) table kept) ≡ true
@@ -276,7 +282,8 @@ unfolding stateOf start
 start-held table kept = refl
 
 -- Where there is room for a line, something is taken: nothing taken prints nothing.
-pub took-some : {p : Progress} {table kept bytes : List ℕ} {r : Written} {table′ kept′ out : List ℕ} → FedInto p table kept bytes r table′ kept′ out
+pub took-some : {p : Progress} {table kept bytes : List ℕ} {r : Written} {table′ kept′ out : List ℕ}
+    → FedInto p table kept bytes r table′ kept′ out
     → (r .taken < length bytes → length out < r .written + longestPrinted) → longestPrinted ≤ length out → 0 < length bytes → 0 < r .taken
 unfolding fed printedEvents
 took-some {p} {table} {kept} {bytes} {r} {table′} {kept′} {out} t full room filled = on (eqb (r .taken) 0)

@@ -1,4 +1,5 @@
--- Laws of feeding: in pieces, and that at all bytes fed, and at the end, what the definition of whole scripts says happens and is printed. By
+-- Laws of feeding: in pieces, and that at all bytes fed, and at the end, what the definition of whole scripts says happens and is
+-- printed. By
 -- induction over the bytes: what happens at them is what is still to happen of the lines that they write.
 use Prim.Native.Nat.{ℕ, suc, _+_, _-_, _≤_, _<_}
 use native.Mathlib.Omega.{arith}
@@ -16,10 +17,12 @@ use Rattle.model.specs.Kinds.{Kind}
 use Rattle.model.specs.Board.{opened}
 use Rattle.model.specs.Table.{tableWords}
 use Rattle.model.specs.Runs.{Step}
-use Rattle.model.specs.Script.{startsWith, lineFeed, firstOf, stepLine, stepsFrom, mostSteps, withByte, linesOf, Run, refused, ran, boardRun, linesRun, scriptRun}
+use Rattle.model.specs.Script.{startsWith, lineFeed, firstOf, stepLine, stepsFrom, mostSteps, withByte, linesOf, Run, refused, ran}
+use Rattle.model.specs.Script.{boardRun, linesRun, scriptRun}
 use Rattle.model.specs.Script.{boardLine, refusedLine, printedStep, printedSteps, printedRun, scriptOutput}
 use Rattle.script.proofs.Lines.{line-kept, members-kept}
-use Rattle.script_run.specs.Feeding.{State, Event, refuses, opens, Fed, mostKept, overStep, over, start, keep, ended, firstRun, stepRun, lineRun}
+use Rattle.script_run.specs.Feeding.{State, Event, refuses, opens, Fed, mostKept, overStep, over, start, keep, ended, firstRun}
+use Rattle.script_run.specs.Feeding.{stepRun, lineRun}
 use Rattle.script_run.specs.Feeding.{silent, byteFed, fed, lastEvents, stepEvents, runEvents, printedEvent, printedEvents}
 
 -- In pieces.
@@ -65,13 +68,15 @@ keep-take p b = on (ltb (length p) mostKept)
     let whole : take mostKept p ≡ p = take-all mostKept p (omega arith) in
     rw (whole, h) (sym (take-all mostKept (p ++ (b ∷ [])) (simp length-append (omega arith)))))
     (λ h. let q : mostKept ≤ length p = ltb-false (length p) mostKept h in
-    let full : ltb (length (take mostKept p)) mostKept ≡ false = le-ltb (length (take mostKept p)) mostKept (simp length-take (omega arith)) in
+    let full : ltb (length (take mostKept p)) mostKept ≡ false =
+    le-ltb (length (take mostKept p)) mostKept (simp length-take (omega arith)) in
     rw full (sym (take-append-le mostKept p (b ∷ []) q)))
 
 -- what is still to happen from a line on
 leftEvents : Kind → State → List (List ℕ) → List Event
 leftEvents kind s lines =
-    cond (eqb (s .step) 0) (runEvents (linesRun kind lines)) (stepEvents (s .step) (stepsFrom kind (s .table) (take (overStep - s .step) lines)))
+    cond (eqb (s .step) 0) (runEvents (linesRun kind lines))
+    (stepEvents (s .step) (stepsFrom kind (s .table) (take (overStep - s .step) lines)))
 
 module _ (kind : Kind) where
   left-over : (s : State) (lines : List (List ℕ)) → over s ≡ true → leftEvents kind s lines ≡ []
@@ -210,7 +215,8 @@ module _ (kind : Kind) where
       → all-events (fed kind s (b ∷ l)) ≡ one .events ++ all-events (fed kind (one .state) l)
   unfolding fed all-events
   fed-step s b l one e =
-      append-assoc (byteFed kind s b .events) (fed kind (byteFed kind s b .state) l .events) (lastEvents kind (fed kind (byteFed kind s b .state) l .state))
+      append-assoc (byteFed kind s b .events) (fed kind (byteFed kind s b .state) l .events)
+      (lastEvents kind (fed kind (byteFed kind s b .state) l .state))
       ∙ ap (λ f. f .events ++ all-events (fed kind (f .state) l)) e
 
   -- of the bytes l, the line having begun with p
@@ -258,7 +264,8 @@ printed-run (ran n l) = ap (λ t. boardLine n ++ t) (printed-steps 1 l)
 
 -- So is what is printed.
 pub streamed : (kind : Kind) (input : List ℕ)
-    → printedEvents (fed kind start input .events) ++ printedEvents (lastEvents kind (fed kind start input .state)) ≡ scriptOutput kind input
+    → printedEvents (fed kind start input .events) ++ printedEvents
+    (lastEvents kind (fed kind start input .state)) ≡ scriptOutput kind input
 unfolding scriptOutput
 streamed kind input =
     sym (printed-append (fed kind start input .events) (lastEvents kind (fed kind start input .state)))

@@ -11,11 +11,12 @@ use Rattle.lists.specs.Parts.{words}
 use Rattle.model.specs.Records.{zeroValue, read, write}
 use Rattle.model.specs.Runs.{Call, begin, deliver, crash, Seen, Step, step}
 use Rattle.model.specs.Kinds.{concur}
-use Rattle.model.specs.Script.{mostSteps}
+use Rattle.model.specs.Script.{firstOf, mostSteps}
 use Rattle.member.specs.Results.{returnedIn}
 use Rattle.script.specs.Meaning.{Printed}
+use Rattle.script.specs.declared.Line.{Line as LineStruct}
 use Rattle.tables.specs.Needs.{Table}
-use Rattle.script_run.specs.Feeding.{State, Event, refuses, opens, steps, Fed, mostKept, over, fed, printedEvents}
+use Rattle.script_run.specs.Feeding.{State, Event, refuses, opens, steps, Fed, mostKept, over, firstRun, fed, lastEvents, printedEvents}
 use Rattle.script_run.specs.declared.Progress.{Progress}
 use Rattle.script_run.specs.declared.Done.{Done}
 use Rattle.script_run.specs.declared.Event.{Event as EventStruct}
@@ -33,10 +34,13 @@ callFor kind member argument =
     (cond (eqb kind 3) (deliver member)
     (crash member)))
 
+abbrev pub callBy : LineStruct → Call
+callBy line = callFor (line .kind) (line .member) (line .argument)
+
 -- a call as the code holds it, and what was seen at it: the answer, the caller's phase, and the value returned
 pub record Shows (d : Done) (call : Call) (s : Seen) : Type 0 where
   pub kind : 0 < d .line .kind
-  pub made : call ≡ callFor (d .line .kind) (d .line .member) (d .line .argument)
+  pub made : call ≡ callBy (d .line)
   pub answer : s .answer ≡ d .outcome .number
   pub phase : s .phases (d .line .member) ≡ d .phase
   pub returned : s .returned ≡ returnedIn (d .outcome)
@@ -89,6 +93,10 @@ pub record Ran (run : Fed) (r : Ended) (table kept : List ℕ) : Type 0 where
   pub state : stateOf (r .progress) table kept ≡ run .state
   pub events : EventsHeld (r .event) (run .events)
 
+-- the run of the first line that the lent words and bytes hold
+abbrev pub firstLine : Progress → List ℕ → List ℕ → Fed
+firstLine p table kept = firstRun concur (take (p .size) table) (firstOf (take (p .kept) kept))
+
 -- bytes that were fed, from the first on: all of them, unless a line ended before
 pub record Took (p : Progress) (table kept bytes : List ℕ) (r : FedStruct) (table′ kept′ : List ℕ) : Type 0 where
   pub within : r .taken ≤ length bytes
@@ -112,6 +120,11 @@ pub record FedInto (p : Progress) (table kept bytes : List ℕ) (r : Written) (t
   pub ready : Ready (r .progress) table′ kept′
   pub state : stateOf (r .progress) table′ kept′ ≡ fed concur (stateOf p table kept) (take (r .taken) bytes) .state
   pub printed : take (r .written) out ≡ printedEvents (fed concur (stateOf p table kept) (take (r .taken) bytes) .events)
+
+-- the end of the input: what is printed of it stands at the front of the output
+pub record Finished (p : Progress) (table kept : List ℕ) (written : ℕ) (out : List ℕ) : Type 0 where
+  pub room : written ≤ length out
+  pub printed : take written out ≡ printedEvents (lastEvents concur (stateOf p table kept))
 
 -- a piece of a script was fed: the state is the one that it leaves, or what it prints could not be written, and the script is over
 pub data FedAll (p : Progress) (table kept bytes : List ℕ) (r : Progress) (table′ kept′ : List ℕ) : Type 0 where

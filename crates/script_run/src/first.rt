@@ -1,11 +1,8 @@
 // The first line of a script: it opens the board, or the script is over.
 ghost use mathlib.Core.Path.{_≡_};
-ghost use lib.ListN.{take};
 ghost use mathlib.Core.List.{[], _∷_};
-ghost use Rattle.model.specs.Kinds.{concur};
-ghost use Rattle.model.specs.Script.{firstOf};
-ghost use Rattle.script_run.specs.Feeding.{refuses, overStep, firstRun};
-ghost use Rattle.script_run.specs.Meaning.{EventsHeld, Ready, Ran};
+ghost use Rattle.script_run.specs.Feeding.{refuses, overStep};
+ghost use Rattle.script_run.specs.Meaning.{EventsHeld, Ready, Ran, firstLine};
 use crate::Ended;
 use crate::Event;
 use crate::MOST_STEPS;
@@ -37,7 +34,7 @@ fn refuse(p: Progress, number: u32) -> Ended
 
 pub fn run_first(table: &mut [u32], kept: &[u8], p: Progress) -> Ended
     requires { ⌜ Ready p (now table) (now kept) ⌝ }
-    ensures { λ r. ⌜ Ran (firstRun concur (take (p .size) (now (table .entry))) (firstOf (take (p .kept) (now (kept .entry))))) r (now (table .exit)) (now (kept .entry)) ⌝ }
+    ensures { λ r. ⌜ Ran (firstLine p (now (table .entry)) (now (kept .entry))) r (now (table .exit)) (now (kept .entry)) ⌝ }
 {
     let count = p.kept;
     let members = parse_members(&kept[..count]);

@@ -42,7 +42,7 @@ impl Progress {
     }
 }
 
-// What a line that is a step did: the line, its answer and the value returned, and the member's phase after it. A malformed line is answered 17.
+// What a line that is a step did: the line, its answer and the value returned, and the member's phase after it. Malformed: answered 17.
 pub struct Done {
     pub line: Line,
     pub outcome: Outcome,

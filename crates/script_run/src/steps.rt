@@ -1,4 +1,4 @@
-// A script fed in pieces, line by line and by value; and, for the board program, what it prints. Each function asks for the room that it needs.
+// A script fed in pieces, line by line and by value, and what the board program prints of it. Each function asks for the room that it needs.
 ghost use mathlib.Core.Path.{_≡_};
 ghost use mathlib.Core.Bool.{Bool, cond, not, _||_};
 ghost use mathlib.Core.List.{List, []};
@@ -12,7 +12,7 @@ ghost use Rattle.model.specs.Runs.{Step};
 ghost use Rattle.model.specs.Script.{printedStep};
 ghost use Rattle.script.specs.Meaning.{longestPrinted};
 ghost use Rattle.script_run.specs.Feeding.{Event as Happened, lastEvents, printedEvents};
-ghost use Rattle.script_run.specs.Meaning.{StepHeld, EventsHeld, stateOf, Ready, Took, Wrote, FedInto};
+ghost use Rattle.script_run.specs.Meaning.{StepHeld, EventsHeld, stateOf, Ready, Took, Wrote, FedInto, Finished};
 use crate::Done;
 use crate::Event;
 use crate::Fed;
@@ -43,7 +43,7 @@ fn none_ended(progress: Progress, taken: usize) -> Fed
     }
 }
 
-// Bytes of a script, up to the end of a line and with its line feed, and what happened at it. Where the script is over, all of them, and nothing.
+// Bytes of a script, up to the end of a line and with its line feed, and what happened at it. All of them, and nothing, if the script is over.
 pub fn take_line(table: &mut [u32], kept: &mut [u8], p: Progress, bytes: &[u8]) -> Fed
     requires { ⌜ Ready p (now table) (now kept) ⌝ }
     ensures { λ r. ⌜ Took p (now (table .entry)) (now (kept .entry)) (now (bytes .entry)) r (now (table .exit)) (now (kept .exit)) ⌝ }
@@ -150,7 +150,8 @@ pub fn feed(
     out: &mut [u8],
 ) -> Written
     requires { ⌜ Ready p (now table) (now kept) ⌝ }
-    ensures { λ r. ⌜ FedInto p (now (table .entry)) (now (kept .entry)) (now (bytes .entry)) r (now (table .exit)) (now (kept .exit)) (now (out .exit)) ⌝ }
+    ensures { λ r. ⌜ FedInto p (now (table .entry)) (now (kept .entry)) (now (bytes .entry))
+        r (now (table .exit)) (now (kept .exit)) (now (out .exit)) ⌝ }
     ensures { λ r. ⌜ (r .taken < length (now (bytes .entry)) → length (now (out .exit)) < r .written + longestPrinted) ⌝ }
 {
     let mut progress = p;
@@ -179,7 +180,7 @@ pub fn feed(
 // The end of the input, and what it prints.
 pub fn finish(table: &mut [u32], kept: &[u8], p: Progress, out: &mut [u8]) -> usize
     requires { ⌜ (Ready p (now table) (now kept)) × (longestPrinted ≤ length (now out)) ⌝ }
-    ensures { λ r. ⌜ (r ≤ length (now (out .exit))) × (take r (now (out .exit)) ≡ printedEvents (lastEvents concur (stateOf p (now (table .entry)) (now (kept .entry))))) ⌝ }
+    ensures { λ r. ⌜ Finished p (now (table .entry)) (now (kept .entry)) r (now (out .exit)) ⌝ }
 {
     print_event(out, 0, last_line(table, kept, p))
 }

@@ -25,7 +25,8 @@ record Upto (p : Progress) (table kept bytes out : List ℕ) (q : Progress) (fro
   room : longestPrinted ≤ length out′
 
 abbrev Inv-loop : tie.InvT-loop
-Inv-loop table₀ kept₀ bytes out₀ progress₀ from₀ table kept out progress from = Upto progress₀ table₀ kept₀ bytes out₀ progress from table kept out
+Inv-loop table₀ kept₀ bytes out₀ progress₀ from₀ table kept out progress from =
+    Upto progress₀ table₀ kept₀ bytes out₀ progress from table kept out
 
 abbrev μ-loop : tie.MeasureT-loop
 μ-loop table₀ kept₀ bytes out₀ progress₀ from₀ table kept out progress from = length bytes - from

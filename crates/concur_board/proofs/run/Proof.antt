@@ -23,7 +23,8 @@ record Left (table kept input out : List ℕ) (q : Progress) (table′ kept′ i
   room : longestPrinted ≤ length out′
 
 abbrev Inv-loop : tie.InvT-loop
-Inv-loop table₀ kept₀ input₀ out₀ progress₀ turns₀ table kept input out progress turns = Left table₀ kept₀ input₀ out₀ progress table kept input out
+Inv-loop table₀ kept₀ input₀ out₀ progress₀ turns₀ table kept input out progress turns =
+    Left table₀ kept₀ input₀ out₀ progress table kept input out
 
 abbrev μ-loop : tie.MeasureT-loop
 μ-loop table₀ kept₀ input₀ out₀ progress₀ turns₀ table kept input out progress turns = turns
@@ -80,7 +81,7 @@ finish-requires c κs = let i = (c .before .before .before .before .loop) .inv i
 slice-aggregate-write-out : tie.Need-slice-aggregate-write-out Inv-loop μ-loop
 slice-aggregate-write-out c =
     let f = written c .finish in
-    sym (length-take-le (f .result) (f .last .1 .1 .1 .0) (f .ensures .0))
+    sym (length-take-le (f .result) (f .last .1 .1 .1 .0) (f .ensures .room))
 
 pub run-spec : {M : Type 1} → statement M
 run-spec =

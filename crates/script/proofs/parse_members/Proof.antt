@@ -1,21 +1,29 @@
--- `parse_members` meets its contract. Assumes nothing.
+-- `parse_members` meets its contract: behind the word stands a number, or the text does not begin with the word.
 use borrow.Author.Needs.{needs}
-use mathlib.Core.Path.{sym, ap, _∙_}
-use Rattle.model.specs.Script.{membersWord, numberOf, firstOf}
+use Prim.Native.Nat.{ℕ}
+use mathlib.Core.Path.{_≡_, sym, ap, _∙_}
+use mathlib.Core.Bool.{true}
+use mathlib.Core.List.{List}
+use Rattle.model.specs.Script.{membersWord, startsWith, numberOf, firstOf}
 use Rattle.script.specs.Meaning.{heldNumber}
 use Rattle.script.proofs.Reading.{starts-fits, rest-all}
 use Rattle.script.proofs.parse_members.Statement.{statement}
 use Rattle.script.proofs.parse_members.Tie as tie
 
-sub-parse-number : tie.Need-sub-parse-number
-sub-parse-number c = starts-fits membersWord (c .before .before .before .before .args .t .now) (sym (c .before .starts-with .ensures) ∙ c .if1 .taken)
+abbrev text : tie.After-starts-with → List ℕ
+text c = c .before .before .before .args .t .now
 
-part-parse-number-start : tie.Need-part-parse-number-start
-part-parse-number-start c = starts-fits membersWord (c .before .before .before .before .args .t .now) (sym (c .before .starts-with .ensures) ∙ c .if1 .taken)
+named : (c : tie.Then1) → startsWith membersWord (text (c .before)) ≡ true
+named c = sym (c .before .starts-with .ensures) ∙ c .if1 .taken
+
+sub-parse-number : tie.Need-sub-parse-number
+sub-parse-number c = starts-fits membersWord (text (c .before)) (named c)
 
 returns : tie.Need-returns
 unfolding firstOf
-returns c = rw (sym (c .before .before .before .starts-with .ensures) ∙ c .before .before .if1 .taken) (c .parse-number .ensures ∙ ap (λ l. heldNumber (numberOf l)) (rest-all (c .before .before .before .before .before .before .args .t .now) 8))
+returns c =
+    let here = c .before .before in
+    rw (named here) (c .parse-number .ensures ∙ ap (λ l. heldNumber (numberOf l)) (rest-all (text (here .before)) 8))
 
 returns-2 : tie.Need-returns-2
 unfolding firstOf heldNumber
@@ -28,7 +36,7 @@ parse-members-spec =
     (λ c. search needs)
     (λ c κs. search needs)
     sub-parse-number
-    part-parse-number-start
+    sub-parse-number
     (λ c. search needs)
     (λ c κs. search needs)
     returns

@@ -1,5 +1,6 @@
--- `single` meets its contract. Assumes nothing.
+-- `single` meets its contract: the number is read, or it cannot be.
 use borrow.Author.Needs.{needs}
+use mathlib.Core.Path.{_≡_}
 use borrow.Author.Tests.{not-true, not-false}
 use Rattle.model.specs.Script.{numberOf}
 use Rattle.script.specs.Meaning.{heldLine, heldOne}
@@ -10,14 +11,16 @@ use Rattle.script.proofs.single.Tie as tie
 returns : tie.Need-returns
 unfolding heldOne heldLine
 returns c =
-    let r = c .before .before .parse-number .result in
-    rw (held-none (numberOf (c .before .before .before .before .args .t .now)) r (c .before .before .parse-number .ensures) (not-true (r .ok) (c .if1 .taken)))
+    let read = c .before .before in
+    let r = read .parse-number in
+    rw (held-none (numberOf (read .before .before .args .t .now)) (r .result) (r .ensures) (not-true (r .result .ok) (c .if1 .taken)))
 
 returns-2 : tie.Need-returns-2
 unfolding heldOne
 returns-2 c =
-    let r = c .before .before .parse-number .result in
-    rw (held-some (numberOf (c .before .before .before .before .args .t .now)) r (c .before .before .parse-number .ensures) (not-false (r .ok) (c .if1 .left)))
+    let read = c .before .before in
+    let r = read .parse-number in
+    rw (held-some (numberOf (read .before .before .args .t .now)) (r .result) (r .ensures) (not-false (r .result .ok) (c .if1 .left)))
 
 pub single-spec : {M : Type 1} → statement M
 single-spec = tie.close (tie.spec (λ c κs. search needs) returns returns-2)

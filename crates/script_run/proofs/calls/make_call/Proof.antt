@@ -55,7 +55,8 @@ returns-4 c =
     let a = s .args in
     let k = done .crash in
     call-plain (a .table .now) (call s) (crash (a .member))
-    (call-crash (a .kind) (a .member) (a .argument) (else1 .if1 .left) (else3 .before .if2 .left) (else3 .if3 .left)) (crash-silent (a .member))
+    (call-crash (a .kind) (a .member) (a .argument) (else1 .if1 .left) (else3 .before .if2 .left) (else3 .if3 .left))
+    (crash-silent (a .member))
     (c .nothing3 .result) (k .result) (k .last .0) (c .nothing3 .ensures .0) (c .nothing3 .ensures .1 .0) (k .ensures .0) (k .ensures .1 .0)
 
 pub make-call-spec : {M : Type 1} → statement M

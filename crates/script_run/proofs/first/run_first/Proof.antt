@@ -1,4 +1,5 @@
--- `run_first` meets its contract: the line is malformed, or its n is out of range, or the board is opened on the part of the words that it fills.
+-- `run_first` meets its contract: the line is malformed, or its n is out of range, or the board is opened on the part of the words that
+-- it fills.
 use borrow.Author.Needs.{needs}
 use Prim.Native.Nat.{ℕ}
 use mathlib.Core.Path.{_≡_, refl, sym, ap, _∙_}
@@ -68,10 +69,12 @@ lent-long c =
     let r = start (first c) .pre in
     length-take-le (c .table-size .result) (start (first c) .args .table .now) (omega (arith, c .table-size .ensures .1, r .room))
 
-opens-words : (c : tie.After-open) → (c .«open») .last .0 ≡ tableWords (named (first (c .before .before))) (opened (named (first (c .before .before))))
+opens-words : (c : tie.After-open)
+    → (c .«open») .last .0 ≡ tableWords (named (first (c .before .before))) (opened (named (first (c .before .before))))
 opens-words c =
     let sized = c .before .before in
-    (c .«open») .ensures .1 ∙ opened-words (named (first sized)) (lent sized) (within (sized .before)) (lent-long sized ∙ sized .table-size .ensures .0)
+    (c .«open») .ensures .1
+    ∙ opened-words (named (first sized)) (lent sized) (within (sized .before)) (lent-long sized ∙ sized .table-size .ensures .0)
 
 -- The needs.
 
@@ -93,7 +96,8 @@ returns-2 c =
     let s = start (else1 .before) in
     let a = s .args in
     let e = ap (firstRun concur (table s)) (well-formed else1) ∙ first-outside (table s) (named (else1 .before)) (outside (c .before)) in
-    refused-ran (a .p) (a .table .now) (a .kept .now) (s .pre) (firstRun concur (table s) (read s)) (c .refuse2 .result) 1 e (c .refuse2 .ensures .0) (c .refuse2 .ensures .1)
+    refused-ran (a .p) (a .table .now) (a .kept .now) (s .pre) (firstRun concur (table s) (read s)) (c .refuse2 .result) 1 e
+    (c .refuse2 .ensures .0) (c .refuse2 .ensures .1)
 
 table-size-requires : tie.Need-table-size-requires
 table-size-requires c κs = inside-high 12 (named (c .before .before .before)) (within c)

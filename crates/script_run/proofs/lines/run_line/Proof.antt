@@ -1,4 +1,5 @@
--- `run_line` meets its contract: the line is malformed, or its call is made on the table, which stays whole, and its phase is read after it.
+-- `run_line` meets its contract: the line is malformed, or its call is made on the table, which stays whole, and its phase is read after
+-- it.
 use borrow.Author.Needs.{needs}
 use Prim.Native.Nat.{_<_}
 use mathlib.Core.Path.{_≡_, refl, sym, ap, _∙_}
@@ -7,7 +8,7 @@ use Rattle.model.specs.Kinds.{concur}
 use Rattle.model.specs.Runs.{Call}
 use Rattle.model.specs.Script.{stepLine}
 use Rattle.model.specs.TableCalls.{tableAfter, tableSeen}
-use Rattle.script_run.specs.Meaning.{callFor, StepHeld, Shows, Whole}
+use Rattle.script_run.specs.Meaning.{callBy}
 use Rattle.script_run.proofs.Held.{whole-after, step-malformed, step-made, call-shown}
 use Rattle.script_run.proofs.lines.run_line.Statement.{statement}
 use Rattle.script_run.proofs.lines.run_line.Tie as tie
@@ -18,7 +19,7 @@ abbrev start : tie.After-parse-line → tie.Start
 start c = c .before .before .before
 
 abbrev call : tie.After-parse-line → Call
-call c = let r = c .parse-line .result in callFor (r .kind) (r .member) (r .argument)
+call c = callBy (c .parse-line .result)
 
 abbrev line-read : tie.After-make-call → tie.After-parse-line
 line-read c = c .before .before .before
@@ -50,10 +51,11 @@ returns-2 c =
     let n = made .before .before .if1 .left in
     let e = step-made (a .table .now) (a .line .now) r (read .parse-line .ensures) n in
     let m = made .make-call in
-    let some : 0 < r .kind = omega arith in (
-      left made ∙ ap (λ s. s .table) (sym e),
-      rw e (call-shown (a .table .now) r (call read) (m .result) (m .last .0) (c .phase-of .result) some refl (m .ensures .0) (m .ensures .1 .0) (left made) (c .phase-of .ensures)),
-    )
+    let some : 0 < r .kind = omega arith in
+    let shown =
+    call-shown (a .table .now) r (call read) (m .result) (m .last .0) (c .phase-of .result) some refl (m .ensures .0) (m .ensures .1 .0)
+    (left made) (c .phase-of .ensures) in
+    (left made ∙ ap (λ s. s .table) (sym e), rw e shown)
 
 pub run-line-spec : {M : Type 1} → statement M
 run-line-spec =

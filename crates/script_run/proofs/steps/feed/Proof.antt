@@ -80,8 +80,10 @@ loop-again c =
     let a = start (round line .before) .args in
     let k = line .take-line in
     let o = printed .print-event in (
-      fed-into-more (a .p) (a .table .now) (a .kept .now) (a .bytes .now) (record { progress = l .progress; taken = l .taken; written = l .at })
-          (l .table) (l .kept) (l .out) (l .inv .0) (k .result) (k .last .0) (k .last .1 .0) (o .last .0) (o .result) (k .ensures) (o .ensures),
+      fed-into-more (a .p) (a .table .now) (a .kept .now) (a .bytes .now)
+          (record { progress = l .progress; taken = l .taken; written = l .at })
+          (l .table) (l .kept) (l .out) (l .inv .0) (k .result) (k .last .0) (k .last .1 .0) (o .last .0) (o .result) (k .ensures)
+          (o .ensures),
       (l .inv .1 .0, o .kept .0 ∙ l .inv .1 .1),
     )
 

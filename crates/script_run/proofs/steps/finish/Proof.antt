@@ -16,7 +16,7 @@ returns c =
     let ended = printed .before .before .before in
     let a = ended .before .before .before .before .before .before .args in
     let w = printed .print-event .ensures (lastEvents concur (stateOf (a .p) (a .table .now) (a .kept .now))) (ended .last-line .ensures) in
-    (w .room, wrote-front w (omega arith))
+    record { room = w .room; printed = wrote-front w (omega arith) }
 
 pub finish-spec : {M : Type 1} → statement M
 finish-spec =

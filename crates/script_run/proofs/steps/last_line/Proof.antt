@@ -31,11 +31,14 @@ going c =
     ltb-false mostSteps (a .p .step) (sym (c .before .is-over .ensures (a .table .now) (a .kept .now)) ∙ c .if1 .left)
 
 -- the events are those of the line's end if it has begun
-events : (c : tie.After-begun) → lastEvents concur (state (start (c .before .before))) ≡ cond (c .begun .result) (lineRun concur (state (start (c .before .before))) .events) []
+events : (c : tie.After-begun)
+    → lastEvents concur (state (start (c .before .before))) ≡ cond (c .begun .result)
+    (lineRun concur (state (start (c .before .before))) .events) []
 events c =
     let s = start (c .before .before) in
     let a = s .args in
-    last-begun (a .p) (a .table .now) (a .kept .now) (going (c .before)) (omega (arith, s .pre .line, s .pre .keeps)) (c .begun .result) (c .begun .ensures)
+    last-begun (a .p) (a .table .now) (a .kept .now) (going (c .before)) (omega (arith, s .pre .line, s .pre .keeps)) (c .begun .result)
+    (c .begun .ensures)
 
 -- The needs.
 
@@ -43,7 +46,8 @@ returns : tie.Need-returns
 returns c =
     let tested = c .before .before in
     let a = start (tested .before) .args in
-    rw (over-last concur (state (start (tested .before))) (sym (tested .before .is-over .ensures (a .table .now) (a .kept .now)) ∙ tested .if1 .taken))
+    let o = sym (tested .before .is-over .ensures (a .table .now) (a .kept .now)) ∙ tested .if1 .taken in
+    rw (over-last concur (state (start (tested .before))) o)
     (c .before .none-ended .ensures .1 .1)
 
 returns-2 : tie.Need-returns-2

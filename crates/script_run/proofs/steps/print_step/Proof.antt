@@ -29,7 +29,8 @@ text c =
 short : (c : tie.After-last-word) → length (text c) ≤ longestPrinted
 short c =
     let a = start c .args in
-    line-short (a .step) (a .done .outcome .number) (a .done .phase) (c .last-word .result) (c .before .shows-phase .result) (a .done .outcome .returned)
+    line-short (a .step) (a .done .outcome .number) (a .done .phase) (c .last-word .result) (c .before .shows-phase .result)
+    (a .done .outcome .returned)
     (search needs) (search needs) (search needs) (search needs)
 
 -- The needs.

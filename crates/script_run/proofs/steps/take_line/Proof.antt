@@ -1,4 +1,5 @@
--- `take_line` meets its contract: the script is over; or the bytes taken so far are kept, none of which ends the line, and the next one ends it.
+-- `take_line` meets its contract: the script is over; or the bytes taken so far are kept, none of which ends the line, and the next one
+-- ends it.
 use borrow.Author.Needs.{needs}
 use Prim.Native.Nat.{ℕ, _+_, _-_, _≤_, _<_}
 use mathlib.Core.Path.{_≡_, refl, sym, ap, _∙_}
@@ -54,7 +55,8 @@ returns c =
     let s = start asked in
     let a = s .args in
     let o = sym (asked .is-over .ensures (a .table .now) (a .kept .now)) ∙ c .before .if1 .taken in
-    none-took (a .p) (a .table .now) (a .kept .now) (a .bytes .now) (a .p) (a .table .now) (a .kept .now) (c .none-ended .result) (s .pre) (c .none-ended .ensures)
+    none-took (a .p) (a .table .now) (a .kept .now) (a .bytes .now) (a .p) (a .table .now) (a .kept .now) (c .none-ended .result) (s .pre)
+    (c .none-ended .ensures)
     (over-fed concur (stateOf (a .p) (a .table .now) (a .kept .now)) (a .bytes .now) o)
 
 loop-holds : tie.Need-loop-holds Inv-loop μ-loop
@@ -77,7 +79,8 @@ returns-2 c =
     let inside = tested .before .before in
     let a = began (inside .before) .args in
     let l = inside .before .loop in
-    line-took (a .p) (a .table .now) (a .kept .now) (a .bytes .now) (l .line) (l .table) (l .kept) (l .taken) (inside .loop-test .taken) (l .inv .held) (l .inv .going) (tested .if2 .taken)
+    line-took (a .p) (a .table .now) (a .kept .now) (a .bytes .now) (l .line) (l .table) (l .kept) (l .taken) (inside .loop-test .taken)
+    (l .inv .held) (l .inv .going) (tested .if2 .taken)
     (done .end-line .result) (done .end-line .last .0) (done .end-line .ensures)
 
 keep-byte-requires : tie.Need-keep-byte-requires Inv-loop μ-loop
@@ -99,10 +102,19 @@ loop-again c =
     record {
       first = i .first;
       within = omega (arith, inside .loop-test .taken);
-      ready = record { room = i .ready .room; keeps = k .kept .0 ∙ i .ready .keeps; line = k .ensures .0; size = i .ready .size; whole = i .ready .whole };
+      ready =
+          record {
+            room =
+                i .ready .room;
+            keeps = k .kept .0 ∙ i .ready .keeps;
+            line = k .ensures .0;
+            size = i .ready .size;
+            whole = i .ready .whole;
+          };
       going = i .going;
       held =
-          fed-more (stateOf (a .p) (a .table .now) (a .kept .now)) (a .bytes .now) (l .taken) (stateOf (l .line) (l .table) (l .kept)) (inside .loop-test .taken) (i .held)
+          fed-more (stateOf (a .p) (a .table .now) (a .kept .now)) (a .bytes .now) (l .taken) (stateOf (l .line) (l .table) (l .kept))
+          (inside .loop-test .taken) (i .held)
           ∙ kept-state (l .line) (l .table) (l .kept) b (k .result) (k .last .0) (i .going) (tested .if2 .left) (k .ensures .1);
     }
 
@@ -114,7 +126,8 @@ returns-3 c =
     let i = l .inv in
     let all : l .taken ≡ length (a .bytes .now) = omega (arith, over .loop-test .left, i .within) in
     let e = c .none-ended2 .ensures in
-    none-took (a .p) (a .table .now) (a .kept .now) (a .bytes .now) (l .line) (l .table) (l .kept) (c .none-ended2 .result) (i .ready) (e .0, (e .1 .0 ∙ all, e .1 .1))
+    none-took (a .p) (a .table .now) (a .kept .now) (a .bytes .now) (l .line) (l .table) (l .kept) (c .none-ended2 .result) (i .ready)
+    (e .0, (e .1 .0 ∙ all, e .1 .1))
     (ap (fed concur (stateOf (a .p) (a .table .now) (a .kept .now))) (sym (take-all (l .taken) (a .bytes .now) (omega arith))) ∙ i .held)
 
 pub take-line-spec : {M : Type 1} → statement M
