@@ -1,4 +1,4 @@
--- `check_23` meets its contract. Assumes nothing.
+-- `check_23` meets its contract: the two counts that are compared are read from their rows.
 use borrow.Author.Needs.{needs}
 use mathlib.Core.Path.{refl}
 use native.Mathlib.Omega.{arith}

@@ -1,4 +1,4 @@
--- `check_25` meets its contract. Assumes nothing.
+-- `check_25` meets its contract: the matrices' order, then the two counts in the slot's row.
 use borrow.Author.Needs.{needs}
 use Prim.Native.Nat.{_-_, min}
 use mathlib.Core.Path.{_≡_, refl}
@@ -25,10 +25,12 @@ returns c =
 returns-2 : tie.Need-returns-2
 unfolding check25
 returns-2 c =
-    let a = (c .before .before .before .before .before .before .args) in
+    let read = c .before .before .before in
+    let left = read .before in
+    let a = left .before .before .args in
     let m : min (a .n) 12 ≡ a .n = omega arith in
     let e : matrixBelow (a .n) (matrixIn (a .t1)) (matrixIn (a .t2)) ≡ true = rw m at
-    (allowed (c .before .before .before .before .before .matrix-below .ensures) (c .before .before .before .before .if1 .left)) in
+    (allowed (left .before .matrix-below .ensures) (left .if1 .left)) in
     rw (
       e,
       row-of (a .t1) (a .slot) (omega arith) (omega arith),

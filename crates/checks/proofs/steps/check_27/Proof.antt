@@ -1,4 +1,4 @@
--- `check_27` meets its contract: each row passed is the slot's, or the newest entry for the member is not above the accepted count. Assumes nothing.
+-- `check_27` meets its contract: each row passed is the slot's, or the newest entry for the member is not above the accepted count.
 use borrow.Author.Needs.{needs}
 use Prim.Native.Nat.{ℕ, _+_, _-_, _≤_, _<_}
 use mathlib.Core.Path.{_≡_, refl}

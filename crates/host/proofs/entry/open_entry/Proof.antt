@@ -1,4 +1,4 @@
--- `open_entry` meets its contract. Assumes nothing.
+-- `open_entry` meets its contract: it accepts the opening record, which becomes stored.
 use borrow.Author.Needs.{needs}
 use Prim.Native.Nat.{ℕ}
 use mathlib.Core.Path.{_≡_, refl}

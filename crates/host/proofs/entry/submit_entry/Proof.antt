@@ -1,4 +1,4 @@
--- `submit_entry` meets its contract. Assumes nothing.
+-- `submit_entry` meets its contract: both records are read, then the submit's two words are stored.
 use borrow.Author.Needs.{needs}
 use mathlib.Core.Path.{refl}
 use native.Mathlib.Omega.{arith}

@@ -1,4 +1,4 @@
--- `entry_size` meets its contract. Assumes nothing.
+-- `entry_size` meets its contract: two records behind the submit's two words.
 use borrow.Author.Needs.{needs}
 use native.Mathlib.Omega.{arith}
 use Rattle.model.specs.Table.{entrySize}

@@ -1,4 +1,4 @@
--- `newest_at` meets its contract. Assumes nothing.
+-- `newest_at` meets its contract: the newest record stands behind the stored one.
 use borrow.Author.Needs.{needs}
 use native.Mathlib.Omega.{arith}
 use Rattle.model.specs.Table.{newestAt}

@@ -33,7 +33,8 @@ returns c =
       post .0 ∙ ap (λ e. wins e r) (entry-lent h),
       (
         host-changed h p k ∙ ap (put (hostOf (a .n) (words (a .entries .now))) slot) host,
-        stored-changed h p k ∙ ap (put (storedRecordsOf (a .n) (words (a .entries .now))) slot) (post .1 .1 ∙ rw (entry-lent h, stored-lent h)),
+        stored-changed h p k ∙ ap (put (storedRecordsOf (a .n) (words (a .entries .now))) slot)
+            (post .1 .1 ∙ rw (entry-lent h, stored-lent h)),
       ),
     )
 

@@ -1,4 +1,4 @@
--- `host_size` meets its contract. Assumes nothing.
+-- `host_size` meets its contract: n entries of one size.
 use borrow.Author.Needs.{needs}
 use Prim.Native.Nat.{_*_, _≤_}
 use native.Mathlib.Omega.{arith}

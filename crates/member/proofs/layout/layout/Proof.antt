@@ -1,9 +1,9 @@
--- `layout` meets its contract. Assumes nothing.
+-- `layout` meets its contract: the parts follow each other, and of 12 members none is large.
 use borrow.Author.Needs.{needs}
-use mathlib.Core.Path.{refl}
 use native.Mathlib.Omega.{arith}
-use Rattle.model.specs.Table.{acceptedAt, lastAt, pendingAt, knownAt, firstAt, secondAt, blockSize}
-use Rattle.laws.proofs.Records.{square-small, recordSize-small}
+use mathlib.Core.Path.{refl}
+use Rattle.model.specs.Table.{acceptedAt, blockSize, firstAt, knownAt, lastAt, pendingAt, secondAt}
+use Rattle.laws.proofs.Records.{recordSize-small, square-small}
 use Rattle.member.proofs.layout.layout.Statement.{statement}
 use Rattle.member.proofs.layout.layout.Tie as tie
 
@@ -15,30 +15,14 @@ add-first c = record { fits = omega (arith, square-small (c .args .n) (c .pre)) 
 
 add-second : tie.Need-add-second
 add-second c =
-    record {
-      fits =
-          omega (
-            arith,
-            square-small (c .before .args .n) (c .before .pre),
-            recordSize-small (c .before .args .n)
-                (c .before .pre),
-            c .record-size .ensures,
-          );
-    }
+    let s = c .before in
+    record { fits = omega (arith, square-small (s .args .n) (s .pre), recordSize-small (s .args .n) (s .pre), c .record-size .ensures) }
 
 add-size : tie.Need-add-size
 add-size c =
-    record {
-      fits =
-          omega (
-            arith,
-            square-small (c .before .before .args .n) (c .before .before .pre),
-            recordSize-small (c .before .before .args .n)
-                (c .before .before .pre),
-            c .before .record-size .ensures,
-            c .record-size2 .ensures,
-          );
-    }
+    let s = c .before .before in
+    let first = c .before .record-size .ensures in
+    record { fits = omega (arith, square-small (s .args .n) (s .pre), recordSize-small (s .args .n) (s .pre), c .record-size2 .ensures) }
 
 returns : tie.Need-returns
 unfolding acceptedAt lastAt pendingAt knownAt firstAt secondAt blockSize

@@ -1,4 +1,4 @@
--- `sound_marks` meets its contract. Assumes nothing.
+-- `sound_marks` meets its contract: each return by the tests that were made before it.
 use borrow.Author.Tests.{eq-eqb, ne-eqb, le-leb, lt-leb}
 use Rattle.member.proofs.marks.sound_marks.Statement.{statement}
 use Rattle.member.proofs.marks.sound_marks.Tie as tie

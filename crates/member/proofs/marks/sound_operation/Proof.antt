@@ -1,4 +1,4 @@
--- `sound_operation` meets its contract. Assumes nothing.
+-- `sound_operation` meets its contract: each return by the tests that were made before it.
 use borrow.Author.Needs.{needs}
 use mathlib.Core.Path.{ap}
 use mathlib.Core.Bool.{not}

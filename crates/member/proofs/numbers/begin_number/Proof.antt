@@ -1,4 +1,4 @@
--- `begin_number` meets its contract. Assumes nothing.
+-- `begin_number` meets its contract: the member's number refuses, or the begin's own answers.
 use borrow.Author.Needs.{needs}
 use mathlib.Core.Path.{sym, _∙_}
 use Rattle.lists.proofs.Refusals.{number-refuses, number-passes}

@@ -1,4 +1,4 @@
--- `crash_number` meets its contract. Assumes nothing.
+-- `crash_number` meets its contract: the member's number refuses, or the crash's own answers.
 use borrow.Author.Needs.{needs}
 use mathlib.Core.Path.{sym, _∙_}
 use Rattle.lists.proofs.Refusals.{number-refuses, number-passes}

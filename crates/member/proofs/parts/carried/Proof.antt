@@ -1,4 +1,4 @@
--- `carried` meets its contract. Assumes nothing.
+-- `carried` meets its contract: a write's value is given, a read's is loaded.
 use borrow.Author.Needs.{needs}
 use borrow.Author.Tests.{eq-eqb, ne-eqb}
 use Rattle.member.proofs.parts.carried.Statement.{statement}

@@ -1,3 +1,4 @@
+-- `own_record` meets its contract: the fields are read where the layout says, and `own-built` says that they are the member's own record.
 use borrow.Author.Needs.{needs}
 use native.Mathlib.Omega.{arith}
 use Rattle.model.specs.Table.{acceptedAt, lastAt, pendingAt, knownAt, firstAt, secondAt, blockSize, memberOf}

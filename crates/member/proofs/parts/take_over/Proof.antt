@@ -1,4 +1,4 @@
--- `take_over` meets its contract: the count stored and the matrix copied are what `kept` says; a read is done then, a write copies its value.
+-- `take_over` meets its contract: the count stored and the matrix copied are what `kept` says; a write then copies its value.
 use borrow.Author.Needs.{needs}
 use native.Mathlib.Omega.{arith}
 use mathlib.Core.Path.{_∙_, _≡_, ap}
@@ -89,26 +89,31 @@ same-length c = same (c .before .before .before)
 returns : tie.Need-returns
 unfolding memberOf
 returns c =
-    let copies = c .before .before .before in
-    let s = start (placed copies) in
-    ap (memberOf (s .args .n)) (copied copies .same)
+    let one = c .before .before .before in
+    let s = start (placed one) in
+    ap (memberOf (s .args .n)) (copied one .same)
     ∙ tookOver-read (s .args .n) (words (s .args .block .now)) (s .pre .slot .least) (s .pre .slot .most) (ne-eqb _ 2 (c .if1 .taken))
+
+abbrev copies : tie.Else1 → tie.After-copy-down
+copies c = c .before .before .before
 
 copy-down-requires-2 : tie.Need-copy-down-requires-2
 unfolding blockSize secondAt firstAt knownAt pendingAt lastAt acceptedAt recordSize memberOf
-copy-down-requires-2 c κs = (omega arith, omega (arith, same (c .before .before .before .before)))
+copy-down-requires-2 c κs = (omega arith, omega (arith, same (copies (c .before))))
 
 same-length-2 : tie.Need-same-length-2
-same-length-2 c = let copies2 = c .before .before in copies2 .copy-down2 .kept .0 ∙ same (copies2 .before .before .before .before .before)
+same-length-2 c =
+    let copies2 = c .before .before in
+    copies2 .copy-down2 .kept .0 ∙ same (copies (copies2 .before .before))
 
 returns-2 : tie.Need-returns-2
 unfolding memberOf
 returns-2 c =
     let copies2 = c .before .before in
     let left = copies2 .before .before in
-    let copies = left .before .before .before in
-    let s = start (placed copies) in
-    ap (memberOf (s .args .n)) (last-held (copied copies) (placed copies .layout .ensures) _ (copies2 .copy-down2 .ensures) .same)
+    let one = copies left in
+    let s = start (placed one) in
+    ap (memberOf (s .args .n)) (last-held (copied one) (placed one .layout .ensures) _ (copies2 .copy-down2 .ensures) .same)
     ∙ tookOver-write (s .args .n) (words (s .args .block .now)) (s .pre .slot .least) (s .pre .slot .most) (eq-eqb _ 2 (left .if1 .left))
 
 pub take-over-spec : {M : Type 1} → statement M

@@ -1,4 +1,4 @@
--- `answer` meets its contract. Assumes nothing.
+-- `answer` meets its contract: it is `note` in phase 2.
 use borrow.Author.Needs.{needs}
 use Rattle.model.specs.Member.{answered}
 use Rattle.member.proofs.steps.answer.Statement.{statement}

@@ -1,4 +1,4 @@
--- `begin_answer_on` meets its contract. Assumes nothing.
+-- `begin_answer_on` meets its contract: the rule's answer on the words of the block.
 use borrow.Author.Needs.{needs}
 use mathlib.Core.Path.{ap, _∙_}
 use native.Mathlib.Omega.{arith}

@@ -1,4 +1,4 @@
--- `deliver_answer_on` meets its contract. Assumes nothing.
+-- `deliver_answer_on` meets its contract: the rule's answer on the words of the block.
 use borrow.Author.Needs.{needs}
 use native.Mathlib.Omega.{arith}
 use Rattle.model.specs.Table.{memberOf}

@@ -1,4 +1,4 @@
--- `judge` meets its contract. Assumes nothing.
+-- `judge` meets its contract: one word is stored, which `judged-by` reads back, accepted or aborted.
 use borrow.Author.Needs.{needs}
 use mathlib.Core.Path.{ap, _∙_}
 use mathlib.Core.Bool.{true, false}

@@ -1,4 +1,4 @@
--- `mark_crashed` meets its contract. Assumes nothing.
+-- `mark_crashed` meets its contract: one word is stored, which `crashed-by` reads back.
 use borrow.Author.Needs.{needs}
 use mathlib.Core.Path.{ap, _∙_}
 use native.Mathlib.Omega.{arith}

@@ -1,4 +1,4 @@
--- `own_count` meets its contract. Assumes nothing.
+-- `own_count` meets its contract: 0 where there is no such slot, and else the slot's word.
 use borrow.Author.Needs.{needs}
 use mathlib.Core.Path.{sym}
 use native.Mathlib.Omega.{arith}

@@ -1,4 +1,4 @@
--- `phase_of` meets its contract. Assumes nothing.
+-- `phase_of` meets its contract: the block's first word.
 use mathlib.Core.Path.{refl}
 use native.Mathlib.Omega.{arith}
 use Rattle.model.specs.Table.{memberOf}

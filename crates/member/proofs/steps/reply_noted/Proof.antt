@@ -1,5 +1,5 @@
--- `reply_noted` meets its contract: the two message records are loaded, `halt_number` says whether they fail or pass as a reply, and what is
--- then done is what `replied` says.
+-- `reply_noted` meets its contract: the two message records are loaded, `halt_number` says whether they fail or pass as a reply, and what
+-- is then done is what `replied` says.
 use borrow.Author.Needs.{needs}
 use native.Mathlib.Omega.{arith}
 use mathlib.Core.Path.{_∙_, _≡_, ap, ap₂, sym}

@@ -1,4 +1,4 @@
--- `submit_of` meets its contract. Assumes nothing.
+-- `submit_of` meets its contract: the slot's word, and the own count that stands at it.
 use borrow.Author.Needs.{needs}
 use mathlib.Core.Path.{refl, sym}
 use native.Mathlib.Omega.{arith}

@@ -1,4 +1,4 @@
--- `Record::fits` meets its contract. Assumes nothing.
+-- `Record::fits` meets its contract: it is `is_fit` of the record's numbers.
 use borrow.Author.Needs.{needs}
 use Rattle.model.specs.Halves.{fitRecord}
 use Rattle.records.specs.Meaning.{recordIn}

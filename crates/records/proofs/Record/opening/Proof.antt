@@ -1,4 +1,4 @@
--- `Record::opening` meets its contract. Assumes nothing.
+-- `Record::opening` meets its contract: by computing, field by field.
 use Rattle.records.proofs.Laws.{blank-opening}
 use Rattle.records.proofs.Record.opening.Statement.{statement}
 use Rattle.records.proofs.Record.opening.Tie as tie

@@ -1,4 +1,4 @@
--- `Record::zero` meets its contract. Assumes nothing.
+-- `Record::zero` meets its contract: by computing, field by field.
 use Rattle.records.proofs.Laws.{blank-zero}
 use Rattle.records.proofs.Record.zero.Statement.{statement}
 use Rattle.records.proofs.Record.zero.Tie as tie

@@ -1,3 +1,4 @@
+-- `count_at` meets its contract: the word at its place, or 0 past the board's members.
 use borrow.Author.Needs.{needs}
 use borrow.Author.Tests.{lt-ltb, le-ltb}
 use Rattle.records.proofs.steps.count_at.Statement.{statement}

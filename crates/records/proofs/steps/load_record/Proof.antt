@@ -1,4 +1,4 @@
--- `load_record` meets its contract. Assumes nothing.
+-- `load_record` meets its contract: the four numbers, the value and the matrix are read from their places.
 use borrow.Author.Needs.{needs}
 use mathlib.Core.Path.{sym}
 use native.Mathlib.Omega.{arith}

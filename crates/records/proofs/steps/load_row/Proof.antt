@@ -1,3 +1,4 @@
+-- `load_row` meets its contract: the counts before the loop's place are read, and the others are 0.
 use borrow.Author.Needs.{needs}
 use mathlib.Core.Path.{_≡_, refl, sym, ap, _∙_}
 use native.Mathlib.Omega.{arith}

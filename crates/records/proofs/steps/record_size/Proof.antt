@@ -1,4 +1,4 @@
--- `record_size` meets its contract. Assumes nothing.
+-- `record_size` meets its contract: 12 numbers and n times n counts.
 use native.Mathlib.Omega.{arith}
 use mathlib.Core.Path.{refl}
 use Rattle.model.specs.RecordWords.{recordSize}

@@ -1,4 +1,4 @@
--- `sound_record` meets its contract. Assumes nothing.
+-- `sound_record` meets its contract: each return by the tests that were made before it, on the record's words.
 use Prim.Native.Nat.{_+_}
 use borrow.Author.Tests.{le-leb, lt-leb}
 use Rattle.lists.specs.Parts.{words}

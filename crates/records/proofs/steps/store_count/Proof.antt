@@ -1,3 +1,4 @@
+-- `store_count` meets its contract: one word is stored, or none past the board's members.
 use borrow.Author.Needs.{needs}
 use borrow.Author.Tests.{lt-ltb, le-ltb}
 use native.Mathlib.Omega.{arith}

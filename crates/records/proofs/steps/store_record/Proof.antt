@@ -1,4 +1,4 @@
--- `store_record` meets its contract. Assumes nothing.
+-- `store_record` meets its contract: the four numbers, the value and the matrix are stored one after the other.
 use borrow.Author.Needs.{needs}
 use mathlib.Core.Path.{_∙_}
 use native.Mathlib.Omega.{arith}

@@ -1,3 +1,4 @@
+-- `store_row` meets its contract: the counts before the loop's place are stored, and those alone.
 use borrow.Author.Needs.{needs}
 use mathlib.Core.Path.{_≡_, refl, sym, ap, _∙_}
 use native.Mathlib.Omega.{arith}

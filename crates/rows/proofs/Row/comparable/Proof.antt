@@ -1,4 +1,4 @@
--- `Row::comparable` meets its contract. Assumes nothing.
+-- `Row::comparable` meets its contract: the first comparison holds, or the second decides.
 use borrow.Author.Needs.{needs}
 use mathlib.Core.Path.{_≡_, refl, sym, _∙_}
 use Rattle.model.specs.Rows.{comparable}

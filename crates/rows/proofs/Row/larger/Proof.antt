@@ -1,4 +1,4 @@
--- `Row::larger` meets its contract. Assumes nothing.
+-- `Row::larger` meets its contract: by whether this row is below the other.
 use borrow.Author.Needs.{needs}
 use mathlib.Core.Path.{_≡_, refl, sym, _∙_}
 use Rattle.model.specs.Rows.{larger}

@@ -1,4 +1,4 @@
--- `Row::with` meets its contract. Assumes nothing.
+-- `Row::with` meets its contract: one count is replaced at its place.
 use borrow.Author.Needs.{needs}
 use Prim.Native.Nat.{ℕ, _+_, _-_}
 use mathlib.Core.Path.{_≡_, refl, sym, ap, _∙_}

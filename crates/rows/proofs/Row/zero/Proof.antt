@@ -1,4 +1,4 @@
--- `Row::zero` meets its contract. Assumes nothing.
+-- `Row::zero` meets its contract: twelve zeros read back as zeros.
 use Rattle.rows.proofs.Laws.{zero-row}
 use Rattle.rows.proofs.Row.zero.Statement.{statement}
 use Rattle.rows.proofs.Row.zero.Tie as tie
