@@ -41,10 +41,10 @@ silent() {
     fi
 }
 
-# run: the program on the pipe, for 20 seconds at most.
+# run [OUTPUT]: the program on the pipe, for 40 seconds at most.
 run() {
     status=0
-    timeout 20 "$program" <"$work/pipe" >"${1:-$work/out}" 2>"$work/errors" || status=$?
+    timeout 40 "$program" <"$work/pipe" >"${1:-$work/out}" 2>"$work/errors" || status=$?
 }
 
 # Document 01's example in pieces that end in a word, at a number, before a line feed and behind it.
@@ -67,23 +67,31 @@ same "a last line without its line feed"
 wait
 
 # Output while the pipe stays open: what a piece prints does not wait for the next.
-{ printf 'members 3\ncrash 2\n'; sleep 0.5; cp "$work/out" "$work/early"; } >"$work/pipe" &
-run
 printf 'board 3\n1 0 0 -\n' >"$work/expected"
+rm "$work/out"
+{
+    printf 'members 3\ncrash 2\n'
+    for turn in $(seq 100); do
+        cmp -s "$work/out" "$work/expected" && break
+        sleep 0.1
+    done
+    cp "$work/out" "$work/early"
+} >"$work/pipe" &
+run
 same "output at the end"
 cp "$work/early" "$work/out"
 same "output while the pipe stays open"
 wait
 
 # A refused first line ends the program, and so do 1,000,000 steps, though the pipe stays open; step 1,000,000 comes after a pause.
-{ printf 'members 13\n'; exec sleep 60; } >"$work/pipe" &
+{ printf 'members 13\n'; exec sleep 90; } >"$work/pipe" &
 run
 kill $!
 printf 'board refused 1\n' >"$work/expected"
 same "a refused first line, and the pipe stays open"
 
 { echo 'members 12'; yes 'deliver 3' | head -n 999999; } >"$work/script"
-{ cat "$work/script"; sleep 1; printf 'crash 3\n'; sleep 0.2; printf 'crash 4\n' || true; exec sleep 60; } >"$work/pipe" 2>/dev/null &
+{ cat "$work/script"; sleep 1; printf 'crash 3\n'; sleep 0.2; printf 'crash 4\n' || true; exec sleep 90; } >"$work/pipe" 2>/dev/null &
 run
 kill $! || true
 { cat "$work/script"; printf 'crash 3\ncrash 4\n'; } | "$simulator" >"$work/expected"
@@ -101,7 +109,7 @@ for rest in 0 1 3000; do
     { sleep 0.2; tail -c +65537 "$work/script" | head -c "$rest" >&3; } &
     exec 4<"$work/pipe" 3>&-
     status=0
-    timeout 20 "$program" <&4 >"$work/out" 2>"$work/errors" || status=$?
+    timeout 40 "$program" <&4 >"$work/out" 2>"$work/errors" || status=$?
     exec 4<&-
     head -c $((65536 + rest)) "$work/script" | "$simulator" >"$work/expected"
     same "a read of 65,536 bytes, and $rest behind them"
@@ -115,7 +123,7 @@ said "reading a folder" "$work/errors" "standard input"
 silent "output of a closed input" "$work/out"
 said "reading a closed input" "$work/errors" "standard input"
 
-{ printf 'members 2\ndeliver 1\n'; exec sleep 60; } >"$work/pipe" &
+{ printf 'members 2\ndeliver 1\n'; exec sleep 90; } >"$work/pipe" &
 run /dev/full
 kill $!
 said "writing to a full device" "$work/errors" "standard output"
