@@ -20,7 +20,6 @@ use records::steps::load_record;
 use records::steps::record_size;
 use records::steps::sound_record;
 use records::steps::store_record;
-use rules::WRITE;
 
 // The entry with the mark of a submit; the reply is its newest and stored records.
 pub fn submit_entry(entry: &mut [u32], n: usize, member: u32, count: u32) -> Reply
@@ -53,7 +52,7 @@ fn accept(entry: &mut [u32], n: usize, committed: Record)
     entry[SUBMIT_COUNT_AT] = 0;
     let at = newest_at(n);
     store_record(entry, at, n, committed);
-    if committed.operation == WRITE {
+    if committed.becomes_stored() {
         copy_down(entry, STORED_AT, at, record_size(n));
     }
 }

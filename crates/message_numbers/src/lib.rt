@@ -10,6 +10,7 @@ ghost use Rattle.model.specs.Messages.{lengthOf, messageFrom, fitMessage, right
 use message_bytes::steps::RECORD_AT;
 use message_bytes::steps::second_at;
 use message_bytes::steps::wide;
+use rules::MOST_MEMBERS;
 use rules::is_fit;
 use rules::is_numbered;
 use steps::length_of;
@@ -69,7 +70,7 @@ fn length_field(a: u8, b: u8) -> usize
 pub fn reader_number(s: &[u8], n: u32) -> u32
     ensures { λ r. ⌜ r ≡ readNumber n (now (s .entry)) ⌝ }
 {
-    if !is_numbered(n, 12) {
+    if !is_numbered(n, MOST_MEMBERS) {
         return 1;
     }
     let size = s.len();

@@ -8,6 +8,7 @@ use message_numbers::OUTCOME;
 use message_numbers::REPLY;
 use message_numbers::SUBMIT;
 use message_numbers::steps::length_of;
+use rules::MOST_MEMBERS;
 use rules::is_fit;
 use rules::is_numbered;
 
@@ -40,7 +41,7 @@ fn message_fits(message: Message, n: u32) -> bool
 pub fn writer_number(message: Message, n: u32, room: usize) -> u32
     ensures { λ r. ⌜ r ≡ writeNumber n (messageOf (fieldsIn message)) room ⌝ }
 {
-    if !is_numbered(n, 12) {
+    if !is_numbered(n, MOST_MEMBERS) {
         return 1;
     }
     if !message_fits(message, n) {

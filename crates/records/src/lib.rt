@@ -1,6 +1,7 @@
 // Records: what a member commits and the host keeps, by value and in table words.
 ghost use mathlib.Core.Path.{_≡_};
 ghost use Rattle.model.specs.Records.{opening as openingOf, zeroRecord};
+ghost use Rattle.model.specs.Kinds.{becomesStored};
 ghost use Rattle.model.specs.Halves.{fitRecord};
 ghost use Rattle.records.specs.Meaning.{recordIn};
 use rows::Row;
@@ -41,6 +42,13 @@ impl Record {
         ensures { λ r. ⌜ r ≡ fitRecord n (recordIn self) ⌝ }
     {
         is_fit(self.member, self.slot, self.operation, n)
+    }
+
+    // Does it become the slot's stored record, once it is accepted? A write does.
+    pub fn becomes_stored(self) -> bool
+        ensures { λ r. ⌜ r ≡ becomesStored (recordIn self) ⌝ }
+    {
+        self.operation == WRITE
     }
 
     // The opening record of a slot: a write by its owner with count, value and matrix zero.

@@ -9,6 +9,7 @@ use crate::MOST_STEPS;
 use crate::Progress;
 use crate::lines::no_step;
 use board::open;
+use rules::MOST_MEMBERS;
 use rules::is_numbered;
 use script::parse_members;
 use tables::steps::table_size;
@@ -42,7 +43,7 @@ pub fn run_first(table: &mut [u32], kept: &[u8], p: Progress) -> Ended
         return refuse(p, 17);
     }
     let n = members.value;
-    if !is_numbered(n, 12) {
+    if !is_numbered(n, MOST_MEMBERS) {
         return refuse(p, 1);
     }
     let size = table_size(n as usize);

@@ -1,10 +1,8 @@
 -- `accept` meets its contract: the mark cleared and the record stored as the newest; a write is then copied to the stored record.
 use borrow.Author.Needs.{needs}
 use native.Mathlib.Omega.{arith}
-use mathlib.Core.Path.{_∙_, _≡_}
+use mathlib.Core.Path.{_∙_, _≡_, sym}
 use lib.ListN.{length, length-set}
-use borrow.Author.Tests.{eq-eqb, ne-eqb}
-use Rattle.model.specs.Kinds.{becomesStored}
 use Rattle.records.specs.Meaning.{recordIn}
 use Rattle.host.proofs.EntryWords.{entry-accepted, entry-accepted-write, sizes, stored-accepted, stored-accepted-write}
 use Rattle.host.proofs.entry.accept.Statement.{statement}
@@ -47,7 +45,6 @@ same-length : tie.Need-same-length
 same-length c = let sized = c .before .before .before in c .before .before .copy-down .kept .0 ∙ same (stores (sized .before .before))
 
 returns : tie.Need-returns
-unfolding becomesStored recordIn
 returns c =
     let sized = c .before .before .before in
     let writes = sized .before .before in
@@ -61,7 +58,7 @@ returns c =
       stored .store-record .ensures,
       placed .newest-at .ensures,
       sized .record-size .ensures,
-      eq-eqb (a .committed .operation) 2 (writes .if1 .taken),
+      sym (writes .before .becomes-stored .ensures) ∙ writes .if1 .taken,
     ) (
       entry-accepted-write (a .n) (a .entry .now) (recordIn (a .committed)) (s .pre .long),
       stored-accepted-write (a .n) (a .entry .now) (recordIn (a .committed)) (s .pre .long),
@@ -71,7 +68,6 @@ same-length-2 : tie.Need-same-length-2
 same-length-2 c = let known = c .before .before in same (known .before .before)
 
 returns-2 : tie.Need-returns-2
-unfolding becomesStored recordIn
 returns-2 c =
     let known = c .before .before in
     let stored = known .before .before in
@@ -81,7 +77,7 @@ returns-2 c =
     rw (
       stored .store-record .ensures,
       placed .newest-at .ensures,
-      ne-eqb (a .committed .operation) 2 (c .if1 .left),
+      sym (c .before .becomes-stored .ensures) ∙ c .if1 .left,
     ) (
       entry-accepted (a .n) (a .entry .now) (recordIn (a .committed)) (s .pre .long),
       stored-accepted (a .n) (a .entry .now) (recordIn (a .committed)) (s .pre .long),
@@ -95,6 +91,7 @@ accept-spec =
     slice-write-entry-2
     (λ c κs. search needs)
     store-record-requires
+    (λ c κs. search needs)
     (λ c κs. search needs)
     copy-down-requires
     same-length
