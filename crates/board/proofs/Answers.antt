@@ -8,7 +8,7 @@ use mathlib.Core.Option.{Option, none}
 use lib.Dec.{eqb}
 use lib.ListN.{length}
 use borrow.Author.Tests.{eqb-true, ne-eqb}
-use Rattle.lists.specs.Functions.{inside, each, Within}
+use Rattle.lists.specs.Functions.{inside, Within}
 use Rattle.lists.specs.Parts.{words}
 use Rattle.lists.proofs.Functions.{on, inside-low, inside-high, inside-in}
 use Rattle.lists.proofs.Refusals.{no-failure, number-refuses, stays}

@@ -6,13 +6,13 @@ use mathlib.Core.List.{List}
 use native.Mathlib.Omega.{arith}
 use lib.Dec.{eqb, leb}
 use lib.ListN.{length}
-use borrow.Author.Tests.{eq-eqb, ne-eqb, eqb-true, leb-true, leb-false, not-false}
+use borrow.Author.Tests.{eqb-true, leb-true, not-false}
 use Rattle.lists.specs.Functions.{inside, Within}
 use Rattle.lists.specs.Parts.{words}
 use Rattle.lists.proofs.Functions.{first, second, inside-low, inside-high}
 use Rattle.lists.proofs.Refusals.{no-ground, no-failure, no-number, number-refuses, number-passes, regrouped, becomes}
 use Rattle.model.specs.Records.{Rec}
-use Rattle.model.specs.Kinds.{concur, isOperation, barred}
+use Rattle.model.specs.Kinds.{concur, barred}
 use Rattle.model.specs.Member.{Member}
 use Rattle.model.specs.Table.{blockSize, memberOf, memberWords, soundRecord, soundOperation, soundMember, blockNumber}
 use Rattle.model.specs.Numbers.{orElse}

@@ -4,7 +4,7 @@ use native.Mathlib.Omega.{arith}
 use mathlib.Core.Path.{_≡_, sym, ap, _∙_}
 use mathlib.Core.List.{List, _++_}
 use lib.ListN.{length, take, drop, length-append, length-take, length-drop}
-use Rattle.lists.specs.Functions.{put, Within}
+use Rattle.lists.specs.Functions.{Within}
 use Rattle.lists.specs.Parts.{words, replaced}
 use Rattle.lists.proofs.Functions.{pasted-below}
 use Rattle.lists.proofs.Parts.{words-replaced}

@@ -10,7 +10,7 @@ use Rattle.lists.specs.Functions.{put, from, pasted, within, inside}
 use Rattle.lists.specs.Parts.{words, replaced}
 use Rattle.lists.specs.Pieces.{pieces}
 use Rattle.lists.proofs.Functions.{put-at, put-off, pasted-in, within-blank}
-use Rattle.lists.proofs.Parts.{words-set, words-replaced, length-replaced, words-zeros}
+use Rattle.lists.proofs.Parts.{words-set, words-replaced, words-zeros}
 use Rattle.model.specs.Member.{idle}
 use Rattle.model.specs.Board.{opened}
 use Rattle.model.specs.Table.{blocksAt, hostAt, tableSize, membersOf, hostOf, storedRecordsOf, boardOf}

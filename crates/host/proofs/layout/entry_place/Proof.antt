@@ -7,7 +7,6 @@ use Rattle.lists.specs.Pieces.{place}
 use Rattle.lists.proofs.Pieces.{few-pieces, place-room}
 use Rattle.model.specs.Table.{hostSize}
 use Rattle.laws.proofs.Tables.{entry-small}
-use Rattle.laws.proofs.Tests.{ends}
 use Rattle.host.proofs.EntryWords.{host-small}
 use Rattle.host.proofs.layout.entry_place.Statement.{statement}
 use Rattle.host.proofs.layout.entry_place.Tie as tie

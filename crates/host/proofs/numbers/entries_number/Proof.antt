@@ -1,6 +1,6 @@
 -- `entries_number` meets its contract: 2 is the test of the length, 3 that of the entries.
 use borrow.Author.Needs.{needs}
-use mathlib.Core.Path.{_≡_, refl, sym, _∙_}
+use mathlib.Core.Path.{sym, _∙_}
 use borrow.Author.Tests.{eq-eqb, ne-eqb, not-true, not-false}
 use lib.ListN.{length}
 use Rattle.model.specs.Table.{hostSize, entriesNumber}

@@ -5,7 +5,6 @@ use mathlib.Core.Path.{_∙_, _≡_, ap}
 use lib.ListN.{length, length-set}
 use borrow.Author.Tests.{eq-eqb, ne-eqb}
 use Rattle.lists.specs.Parts.{words}
-use Rattle.model.specs.Messages.{fits}
 use Rattle.model.specs.RecordWords.{recordSize}
 use Rattle.model.specs.Table.{acceptedAt, blockSize, firstAt, knownAt, lastAt, memberOf, pendingAt, secondAt}
 use Rattle.laws.proofs.Records.{square-small}

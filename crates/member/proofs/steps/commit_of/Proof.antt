@@ -2,7 +2,6 @@
 use borrow.Author.Needs.{needs}
 use Prim.Native.Nat.{_+_, _≤_}
 use native.Mathlib.Omega.{arith}
-use Rattle.model.specs.Messages.{fits}
 use Rattle.model.specs.RecordWords.{recordSize}
 use Rattle.model.specs.Table.{firstAt, memberOf}
 use Rattle.laws.proofs.Tables.{block-small}

@@ -7,7 +7,6 @@ use Rattle.lists.specs.Pieces.{place}
 use Rattle.lists.proofs.Pieces.{few-pieces}
 use Rattle.model.specs.Table.{blockAt}
 use Rattle.laws.proofs.Tables.{block-small, table-small}
-use Rattle.laws.proofs.Tests.{ends}
 use Rattle.tables.proofs.Places.{block-ends}
 use Rattle.tables.proofs.steps.block_at.Statement.{statement}
 use Rattle.tables.proofs.steps.block_at.Tie as tie

@@ -6,7 +6,6 @@ use mathlib.Core.Path.{refl}
 use Rattle.lists.proofs.Pieces.{few-pieces}
 use Rattle.model.specs.Table.{hostAt}
 use Rattle.laws.proofs.Tables.{block-small, host-room, table-small}
-use Rattle.laws.proofs.Tests.{ends}
 use Rattle.tables.proofs.steps.host_at.Statement.{statement}
 use Rattle.tables.proofs.steps.host_at.Tie as tie
 
