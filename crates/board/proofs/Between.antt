@@ -10,7 +10,8 @@ use Rattle.model.specs.Records.{Rec, recordWithin}
 use Rattle.model.specs.Member.{Member, answered, judged, returnedBy}
 use Rattle.model.specs.Host.{Entry, submitted, wins, entryAfter, storedAfter}
 use Rattle.model.specs.Board.{Board, withMember, submitTaken, sentRecord, commitTaken}
-use Rattle.model.specs.Table.{blockSize, blockAt, hostSize, entryAt, firstAt, newestAt, storedAt, memberOf, entryOf, storedOf, hostOf, storedRecordsOf, boardOf}
+use Rattle.model.specs.Table.{blockSize, blockAt, hostSize, entryAt, firstAt, newestAt, storedAt, memberOf, entryOf, storedOf, hostOf}
+use Rattle.model.specs.Table.{storedRecordsOf, boardOf}
 use Rattle.laws.proofs.Records.{within-read}
 use Rattle.laws.proofs.Tables.{member-at, entry-at, stored-at}
 use Rattle.member.specs.Results.{Taken}
@@ -19,7 +20,8 @@ use Rattle.member.specs.Needs.{Running}
 use Rattle.host.specs.Needs.{Slot}
 use Rattle.tables.specs.Needs.{Left, BlockPlace, HostPlace}
 use Rattle.board.specs.Needs.{Turn}
-use Rattle.tables.proofs.Lent.{part, back, BlockLent, HostLent, block-lent, host-lent, running-block, member-lent, block-left, slot-lent, host-table, host-changed, entries-lent, stored-lent}
+use Rattle.tables.proofs.Lent.{part, back, BlockLent, HostLent, block-lent, host-lent, running-block, member-lent, block-left, slot-lent}
+use Rattle.tables.proofs.Lent.{host-table, host-changed, entries-lent, stored-lent}
 
 -- the record that a block's member sends
 sent-read : (n i : ℕ) (v : ℕ → ℕ) → recordWithin n (sentRecord i (memberOf n v)) ≡ sentRecord i (memberOf n v)

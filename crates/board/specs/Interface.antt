@@ -18,7 +18,8 @@ use Rattle.model.specs.Halves.{unlessRefused}
 unfoldable pub wordsFor : ℕ → ℕ
 wordsFor n = cond (isSize n) (tableSize n) 0
 
--- a call with a slice beside the table, which is `long` where it should be `due` words: 3, 2, 3 of the table, 2 of the slice, the call's own
+-- a call with a slice beside the table, which is `long` where it should be `due` words: 3, 2, 3 of the table, 2 of the slice, the call's
+-- own
 unfoldable pub answerBeside : ℕ → ℕ → List ℕ → Call → ℕ
 answerBeside long due l call =
     orElse (tableNumber l)

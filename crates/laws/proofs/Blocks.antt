@@ -14,8 +14,10 @@ use Rattle.model.specs.Records.{Rec, opening, zeroRecord, zeroValue}
 use Rattle.model.specs.RecordWords.{recordSize, rowOf, matrixOf, valueOf, recordOf, recordWords}
 use Rattle.model.specs.Member.{Member, idle}
 use Rattle.model.specs.Host.{Entry}
-use Rattle.laws.proofs.Records.{rowOf-same, valueOf-same, matrixOf-same, recordOf-same, row-listed, value-listed, matrix-listed, recordWords-of, length-recordWords, recordOf-words, within-opening}
-use Rattle.model.specs.Table.{ownAt, storedAt, acceptedAt, lastAt, pendingAt, knownAt, firstAt, secondAt, blockSize, newestAt, entrySize, memberOf, entryOf, storedOf, memberWords, entryWords}
+use Rattle.laws.proofs.Records.{rowOf-same, valueOf-same, matrixOf-same, recordOf-same, row-listed, value-listed, matrix-listed}
+use Rattle.laws.proofs.Records.{recordWords-of, length-recordWords, recordOf-words, within-opening}
+use Rattle.model.specs.Table.{ownAt, storedAt, acceptedAt, lastAt, pendingAt, knownAt, firstAt, secondAt, blockSize, newestAt, entrySize}
+use Rattle.model.specs.Table.{memberOf, entryOf, storedOf, memberWords, entryWords}
 
 -- The member's block.
 
@@ -111,15 +113,19 @@ entry-read n e stored h = λ t. record { submitMember = e .submitMember; submitC
 
     read : recordOf n (from (words (front ++ recordWords n stored ++ recordWords n (e .newest))) (newestAt n)) ≡ e .newest
     read =
-        recordOf-same n (from (words (front ++ recordWords n stored ++ recordWords n (e .newest))) (newestAt n)) (words (recordWords n (e .newest)))
-        (λ i p. second-at (front ++ recordWords n stored) (recordWords n (e .newest)) (newestAt n) i (simp (length-append, length-recordWords) (omega arith)))
+        recordOf-same n (from (words (front ++ recordWords n stored ++ recordWords n (e .newest))) (newestAt n))
+        (words (recordWords n (e .newest)))
+        (λ i p. second-at (front ++ recordWords n stored) (recordWords n (e .newest)) (newestAt n) i
+        (simp (length-append, length-recordWords) (omega arith)))
         ∙ h
 
-pub stored-read : (n : ℕ) (e : Entry) (stored : Rec) → recordOf n (words (recordWords n stored)) ≡ stored → storedOf n (words (entryWords n e stored)) ≡ stored
+pub stored-read : (n : ℕ) (e : Entry) (stored : Rec) → recordOf n (words (recordWords n stored)) ≡ stored
+    → storedOf n (words (entryWords n e stored)) ≡ stored
 unfolding storedOf entryWords
 stored-read n e stored h =
     recordOf-same n (from (words (entryWords n e stored)) storedAt) (words (recordWords n stored))
-    (λ i p. middle-at (e .submitMember ∷ e .submitCount ∷ []) (recordWords n stored) (recordWords n (e .newest)) storedAt i refl (rw length-recordWords p))
+    (λ i p. middle-at (e .submitMember ∷ e .submitCount ∷ []) (recordWords n stored) (recordWords n (e .newest)) storedAt i refl
+    (rw length-recordWords p))
     ∙ h
 
 -- Zero words are an idle member; an opening record's words are three, and zeros.

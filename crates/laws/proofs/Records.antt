@@ -10,7 +10,8 @@ use mathlib.Core.List.{List, [], _∷_, _++_}
 use lib.ListN.{length, length-append, List·getD-append}
 use Rattle.lists.specs.Functions.{from, within}
 use Rattle.lists.specs.Parts.{words, tabulate, listed, replaced}
-use Rattle.lists.proofs.Functions.{numbered-at, numbered-same, numbered-next, within-blank, from-at, from-first, from-from, from-pasted-at, from-pasted-below, from-pasted-above}
+use Rattle.lists.proofs.Functions.{numbered-at, numbered-same, numbered-next, within-blank, from-at, from-first, from-from}
+use Rattle.lists.proofs.Functions.{from-pasted-at, from-pasted-below, from-pasted-above}
 use Rattle.lists.proofs.Parts.{length-tabulate, tabulate-at, tabulate-same, tabulate-words, tabulate-append, from-append, words-replaced}
 use Rattle.model.specs.Rows.{Row, Matrix, zeroRow, zeroMatrix}
 use Rattle.model.specs.Records.{Value, Rec, zeroValue, opening, zeroRecord, recordWithin}
@@ -94,7 +95,8 @@ pub matrixOf-words : (n : ℕ) (m : Matrix) → matrixOf n (matrixWord n m) ≡ 
 unfolding matrixOf from
 matrixOf-words n m =
     numbered-same n zeroRow (λ j. rowOf n (from (matrixWord n m) (j * n))) (λ j. within n 0 (m (j + 1)))
-    (λ j p. rowOf-same n (from (matrixWord n m) (j * n)) (λ i. m (j + 1) (i + 1)) (λ i q. matrixWord-at n m j i q) ∙ rowOf-next n (m (j + 1)))
+    (λ j p. rowOf-same n (from (matrixWord n m) (j * n)) (λ i. m (j + 1) (i + 1)) (λ i q. matrixWord-at n m j i q)
+    ∙ rowOf-next n (m (j + 1)))
     ∙ numbered-next n zeroRow (λ j. within n 0 (m j))
 
 pub valueOf-next : (v : Value) → valueOf (λ i. v (i + 1)) ≡ within 8 0 v

@@ -28,7 +28,8 @@ matrixWithin-row n m j p q = within-at n zeroRow (λ j. within n 0 (m j)) j p q
 pub matrixWithin-at : (n : ℕ) (m : Matrix) (j k : ℕ) → 1 ≤ j → j ≤ n → 1 ≤ k → k ≤ n → matrixWithin n m j k ≡ m j k
 matrixWithin-at n m j k p q r s = ap (λ a. a k) (matrixWithin-row n m j p q) ∙ within-at n 0 (m j) k r s
 
-pub below-same : (n : ℕ) (a b c d : Row) → ((k : ℕ) → 1 ≤ k → k ≤ n → a k ≡ c k) → ((k : ℕ) → 1 ≤ k → k ≤ n → b k ≡ d k) → below n a b ≡ below n c d
+pub below-same : (n : ℕ) (a b c d : Row) → ((k : ℕ) → 1 ≤ k → k ≤ n → a k ≡ c k) → ((k : ℕ) → 1 ≤ k → k ≤ n → b k ≡ d k) → below n a b
+    ≡ below n c d
 unfolding below
 below-same n a b c d e f = each-same n (λ k. leb (a k) (b k)) (λ k. leb (c k) (d k)) (λ k p q. rw (e k p q, f k p q))
 
@@ -36,7 +37,8 @@ module _ (n i r : ℕ) (low : 1 ≤ i) (high : i ≤ n) (least : 1 ≤ r) (most 
   module _ (known newest : Matrix) where
     pub check22-within : check22 n i r known (matrixWithin n newest) ≡ check22 n i r known newest
     unfolding check22
-    check22-within = each-same n (λ k. eqb k i || leb (known r k) (matrixWithin n newest r k)) (λ k. eqb k i || leb (known r k) (newest r k))
+    check22-within = each-same n (λ k. eqb k i || leb (known r k) (matrixWithin n newest r k))
+        (λ k. eqb k i || leb (known r k) (newest r k))
         (λ k p q. ap (λ x. eqb k i || leb (known r k) x) (matrixWithin-at n newest r k least most p q))
 
     pub check26-within : check26 n r known (matrixWithin n newest) ≡ check26 n r known newest
@@ -45,8 +47,10 @@ module _ (n i r : ℕ) (low : 1 ≤ i) (high : i ≤ n) (least : 1 ≤ r) (most 
         (λ j. eqb j r || (below n (known j) (matrixWithin n newest j) || below n (matrixWithin n newest j) (known j)))
         (λ j. eqb j r || (below n (known j) (newest j) || below n (newest j) (known j)))
         (λ j p q. rw (
-          below-same n (known j) (matrixWithin n newest j) (known j) (newest j) (λ k s t. refl) (λ k s t. matrixWithin-at n newest j k p q s t),
-          below-same n (matrixWithin n newest j) (known j) (newest j) (known j) (λ k s t. matrixWithin-at n newest j k p q s t) (λ k s t. refl),
+          below-same n (known j) (matrixWithin n newest j) (known j) (newest j) (λ k s t. refl)
+              (λ k s t. matrixWithin-at n newest j k p q s t),
+          below-same n (matrixWithin n newest j) (known j) (newest j) (known j) (λ k s t. matrixWithin-at n newest j k p q s t)
+              (λ k s t. refl),
         ))
 
     pub check25-within : check25 n r (matrixWithin n known) (matrixWithin n newest) ≡ check25 n r known newest
@@ -66,7 +70,8 @@ module _ (n i r : ℕ) (low : 1 ≤ i) (high : i ≤ n) (least : 1 ≤ r) (most 
 
     pub check27-within : check27 n i r accepted (matrixWithin n newest) ≡ check27 n i r accepted newest
     unfolding check27
-    check27-within = each-same n (λ j. eqb j r || leb (matrixWithin n newest j i) (accepted j)) (λ j. eqb j r || leb (newest j i) (accepted j))
+    check27-within = each-same n (λ j. eqb j r || leb (matrixWithin n newest j i) (accepted j))
+        (λ j. eqb j r || leb (newest j i) (accepted j))
         (λ j p q. ap (λ x. eqb j r || leb x (accepted j)) (matrixWithin-at n newest j i p q low high))
 
 pub haltNumber-within : (n i : ℕ) (m : Member) (newest stored : Rec) (seals : ℕ) → 1 ≤ i → i ≤ n → 1 ≤ m .slot → m .slot ≤ n
@@ -91,7 +96,8 @@ within-put n a k v p q = fun-ext λ j. on (eqb j k)
 larger-within : (n : ℕ) (a b : Row) → within n 0 (larger n a b) ≡ larger n (within n 0 a) (within n 0 b)
 unfolding larger
 larger-within n a b =
-    let s : below n (within n 0 a) (within n 0 b) ≡ below n a b = below-same n (within n 0 a) (within n 0 b) a b (within-at n 0 a) (within-at n 0 b) in
+    let s : below n (within n 0 a) (within n 0 b) ≡ below n a b = below-same n (within n 0 a) (within n 0 b) a b (within-at n 0 a)
+    (within-at n 0 b) in
     rw s (on (below n a b) (λ h. rw h) (λ h. rw h))
 
 larger-same : (n : ℕ) (a : Row) → larger n a a ≡ a

@@ -150,11 +150,13 @@ board-parts n b h =
       members = λ i p. member-parts n i (b .members i)
           (each-at n (λ i. soundMember n i (b .members i)) (first each-member each-slot h) i (inside-low n i p) (inside-high n i p));
       slots = λ r p. entry-parts n (b .host r) (b .stored r)
-          (each-at n (λ r. soundEntry n (b .host r) (b .stored r)) (second each-member each-slot h) r (inside-low n r p) (inside-high n r p));
+          (each-at n (λ r. soundEntry n (b .host r) (b .stored r)) (second each-member each-slot h) r
+          (inside-low n r p) (inside-high n r p));
     }
 
 pub board-sound : (n : ℕ) (b : Board) → SoundBoard n b → soundBoard n b ≡ true
 unfolding soundBoard soundHost
 board-sound n b s = both
     (each-all n (λ i. soundMember n i (b .members i)) (λ i p q. member-sound n i (b .members i) (s .members i (inside-in n i p q))))
-    (each-all n (λ r. soundEntry n (b .host r) (b .stored r)) (λ r p q. entry-sound n (b .host r) (b .stored r) (s .slots r (inside-in n r p q))))
+    (each-all n (λ r. soundEntry n (b .host r) (b .stored r))
+    (λ r p q. entry-sound n (b .host r) (b .stored r) (s .slots r (inside-in n r p q))))

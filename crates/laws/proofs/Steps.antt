@@ -9,13 +9,15 @@ use borrow.Author.Tests.{eqb-true, eqb-false}
 use lib.ListN.{length, take, drop, set, replicate, length-set}
 use Rattle.lists.specs.Functions.{put, pasted, from}
 use Rattle.lists.specs.Parts.{words, tabulate, replaced}
-use Rattle.lists.proofs.Functions.{on, by-place, put-at, put-off, pasted-in, pasted-below, pasted-above, pasted-same, from-pasted-at, numbered-put}
+use Rattle.lists.proofs.Functions.{on, by-place, put-at, put-off, pasted-in, pasted-below, pasted-above, pasted-same, from-pasted-at}
+use Rattle.lists.proofs.Functions.{numbered-put}
 use Rattle.lists.proofs.Parts.{words-set, length-replaced, words-replaced, length-tabulate, tabulate-at, part-tabulate, replicate-tabulate}
 use Rattle.lists.proofs.Pieces.{tabulate-of}
 use Rattle.model.specs.Records.{Value, Rec, write, zeroRecord, recordWithin}
 use Rattle.model.specs.RecordWords.{matrixAt, recordSize, rowOf, matrixOf, valueOf, recordOf, recordWords}
 use Rattle.model.specs.Member.{moved, begun, failed, judged, dropped, tookOver, crashedOf}
-use Rattle.model.specs.Table.{phaseAt, crashedAt, haltAt, slotAt, operationAt, ownAt, acceptedAt, lastAt, pendingAt, knownAt, firstAt, secondAt, memberOf}
+use Rattle.model.specs.Table.{phaseAt, crashedAt, haltAt, slotAt, operationAt, ownAt, acceptedAt, lastAt, pendingAt, knownAt, firstAt}
+use Rattle.model.specs.Table.{secondAt, memberOf}
 use Rattle.laws.proofs.Records.{rowOf-same, matrixOf-same, valueOf-same, recordOf-same, rowOf-at, length-recordWords, recordOf-words}
 use Rattle.laws.proofs.Blocks.{value-zero, record-zero}
 
@@ -36,11 +38,13 @@ module _ {k : ℕ} {l : List ℕ} {w : ℕ → ℕ} (h : Holds k l w) where
     same = words-set l i x (omega (arith, h .long)) ∙ ap (λ f. put f i x) (h .same);
   }
 
-  pub holds-pasted : (m : List ℕ) (a c : ℕ) (g : ℕ → ℕ) → length m ≡ length l → words m ≡ pasted a c g (words l) → Holds k m (pasted a c g w)
+  pub holds-pasted : (m : List ℕ) (a c : ℕ) (g : ℕ → ℕ) → length m ≡ length l → words m ≡ pasted a c g (words l)
+      → Holds k m (pasted a c g w)
   holds-pasted m a c g p e = record { long = p ∙ h .long; same = e ∙ ap (pasted a c g) (h .same) }
 
   -- a run of c words from a on, whichever list p they came in
-  holds-run : (m : List ℕ) (a c : ℕ) (g : ℕ → ℕ) (p : List ℕ) → m ≡ replaced l a p → p ≡ tabulate c g → a + c ≤ k → Holds k m (pasted a c g w)
+  holds-run : (m : List ℕ) (a c : ℕ) (g : ℕ → ℕ) (p : List ℕ) → m ≡ replaced l a p → p ≡ tabulate c g → a + c ≤ k
+      → Holds k m (pasted a c g w)
   holds-run m a c g p e s q =
       holds-pasted m a c g (ap length e ∙ length-replaced l a p room)
       (ap words e
@@ -55,7 +59,8 @@ module _ {k : ℕ} {l : List ℕ} {w : ℕ → ℕ} (h : Holds k l w) where
   pub holds-cleared : (m : List ℕ) (a c : ℕ) → m ≡ replaced l a (replicate c 0) → a + c ≤ k → Holds k m (pasted a c (λ i. 0) w)
   holds-cleared m a c e p = holds-run m a c (λ i. 0) (replicate c 0) e (replicate-tabulate c 0) p
 
-  pub holds-copied : (m : List ℕ) (a b c : ℕ) → m ≡ replaced l a (take c (drop b l)) → a + c ≤ k → b + c ≤ k → Holds k m (pasted a c (from w b) w)
+  pub holds-copied : (m : List ℕ) (a b c : ℕ) → m ≡ replaced l a (take c (drop b l)) → a + c ≤ k → b + c ≤ k
+      → Holds k m (pasted a c (from w b) w)
   holds-copied m a b c e p q =
       holds-run m a c (from w b) (take c (drop b l)) e
       (part-tabulate l b c (omega (arith, h .long)) ∙ ap (λ f. tabulate c (from f b)) (h .same)) p
@@ -160,14 +165,17 @@ failed-by n w number =
 
 -- both message records written, and the phase
 pub noted-by : (n : ℕ) (w : ℕ → ℕ) (phase : ℕ) (first second : Rec)
-    → memberOf n (put (pasted (secondAt n) (recordSize n) (words (recordWords n second)) (pasted (firstAt n) (recordSize n) (words (recordWords n first)) w)) phaseAt phase)
+    → memberOf n
+    (put (pasted (secondAt n) (recordSize n) (words (recordWords n second))
+    (pasted (firstAt n) (recordSize n) (words (recordWords n first)) w)) phaseAt phase)
     ≡ moved (memberOf n w) phase (memberOf n w .halt) (recordWithin n first) (recordWithin n second)
 unfolding memberOf secondAt firstAt knownAt pendingAt lastAt acceptedAt from
 noted-by n w phase first second =
     moved-by n v w phase (w haltAt) (recordWithin n first) (recordWithin n second)
     (put-at _ phaseAt phase)
     (rest haltAt (omega arith))
-    (read first (firstAt n) (λ i h. head (firstAt n + i) (omega arith) ∙ pasted-off (secondAt n) (recordSize n) s u (firstAt n + i) (omega arith)
+    (read first (firstAt n) (λ i h. head (firstAt n + i) (omega arith)
+    ∙ pasted-off (secondAt n) (recordSize n) s u (firstAt n + i) (omega arith)
     ∙ from-pasted-at (firstAt n) (recordSize n) f w i h))
     (read second (secondAt n) (λ i h. head (secondAt n + i) (omega arith) ∙ from-pasted-at (secondAt n) (recordSize n) s u i h))
     (λ i h. rest i (omega arith))
@@ -193,7 +201,8 @@ noted-by n w phase first second =
         ∙ pasted-off (secondAt n) (recordSize n) s u i (omega arith)
         ∙ pasted-off (firstAt n) (recordSize n) f w i (omega arith)
 
-    read : (r : Rec) (a : ℕ) → ((i : ℕ) → i < recordSize n → from v a i ≡ words (recordWords n r) i) → recordOf n (from v a) ≡ recordWithin n r
+    read : (r : Rec) (a : ℕ) → ((i : ℕ) → i < recordSize n → from v a i ≡ words (recordWords n r) i) → recordOf n (from v a)
+        ≡ recordWithin n r
     read r a h = recordOf-same n (from v a) (words (recordWords n r)) h ∙ recordOf-words n r
 
 -- the phase alone
@@ -268,7 +277,8 @@ module _ (w : ℕ → ℕ) (phase slot operation : ℕ) where
 
 -- the end of an operation: the pending value and both message records cleared too
 pub dropped-by : (n : ℕ) (w : ℕ → ℕ)
-    → memberOf n (headed (pasted (firstAt n) (2 * recordSize n) (λ i. 0) (pasted (pendingAt n) 8 (λ i. 0) w)) 0 0 0) ≡ dropped (memberOf n w)
+    → memberOf n (headed (pasted (firstAt n) (2 * recordSize n) (λ i. 0) (pasted (pendingAt n) 8 (λ i. 0) w)) 0 0 0)
+    ≡ dropped (memberOf n w)
 unfolding dropped memberOf secondAt firstAt knownAt pendingAt lastAt acceptedAt from
 dropped-by n w = λ t. record {
   phase = headed-phase x 0 0 0 t;
@@ -321,7 +331,8 @@ dropped-by n w = λ t. record {
 -- the start of an operation: its slot's own count and its pending value written too
 pub begun-by : (n : ℕ) (w : ℕ → ℕ) (r t : ℕ) (given : Value) (value : ℕ → ℕ) → 1 ≤ r → r ≤ n
     → valueOf value ≡ cond (eqb t write) given (valueOf (from w (lastAt n)))
-    → memberOf n (headed (pasted (pendingAt n) 8 value (put w (ownAt + r - 1) (w (ownAt + r - 1) + 1))) 1 r t) ≡ begun (memberOf n w) r t given
+    → memberOf n (headed (pasted (pendingAt n) 8 value (put w (ownAt + r - 1) (w (ownAt + r - 1) + 1))) 1 r t)
+    ≡ begun (memberOf n w) r t given
 unfolding begun memberOf secondAt firstAt knownAt pendingAt lastAt acceptedAt from
 begun-by n w r t given value p q e = λ d. record {
   phase = headed-phase x 1 r t d;
@@ -446,7 +457,8 @@ module _ (n : ℕ) (w : ℕ → ℕ) where
     tookOver-write e =
         tookOver-by v (pasted-off (lastAt n) 8 (from (kept n w) (pendingAt n)) (kept n w))
         (rw e
-        (valueOf-same (from v (lastAt n)) (from (kept n w) (pendingAt n)) (from-pasted-at (lastAt n) 8 (from (kept n w) (pendingAt n)) (kept n w))
+        (valueOf-same (from v (lastAt n)) (from (kept n w) (pendingAt n))
+        (from-pasted-at (lastAt n) 8 (from (kept n w) (pendingAt n)) (kept n w))
         ∙ value-kept n (kept n w) w Other kept-other (pendingAt n) (omega arith)))
       where
         v : ℕ → ℕ

@@ -11,15 +11,19 @@ use borrow.Author.Tests.{leb-true, eqb-true, eqb-false}
 use Rattle.lists.specs.Functions.{put, pasted, from, within, each}
 use Rattle.lists.specs.Parts.{words, tabulate, replaced}
 use Rattle.lists.specs.Pieces.{place, laid}
-use Rattle.lists.proofs.Functions.{on, first, second, each-at, within-at, within-same, within-blank, from-from, from-pasted-at, from-pasted-below, from-pasted-above}
+use Rattle.lists.proofs.Functions.{on, first, second, each-at, within-at, within-same, within-blank, from-from, from-pasted-at}
+use Rattle.lists.proofs.Functions.{from-pasted-below, from-pasted-above}
 use Rattle.lists.proofs.Parts.{words-replaced}
-use Rattle.lists.proofs.Pieces.{part-at, pasted-from, middle-at, second-at, tabulate-join, tabulate-of, place-room, length-laid, laid-tabulate, pieces-at, pieces-same, pieces-put, pieces-laid}
+use Rattle.lists.proofs.Pieces.{part-at, pasted-from, middle-at, second-at, tabulate-join, tabulate-of, place-room, length-laid}
+use Rattle.lists.proofs.Pieces.{laid-tabulate, pieces-at, pieces-same, pieces-put, pieces-laid}
 use Rattle.model.specs.Records.{Rec, opening, zeroRecord}
 use Rattle.model.specs.Member.{Member, idle}
 use Rattle.model.specs.Host.{Entry}
 use Rattle.model.specs.Board.{Board, noEntry, openingEntry, opened, withMember}
-use Rattle.model.specs.Table.{blocksAt, blockSize, entrySize, hostSize, blockAt, hostAt, entryAt, tableSize, memberOf, entryOf, storedOf, membersOf, hostOf, storedRecordsOf, boardOf, memberWords, entryWords, hostWords, tableWords}
-use Rattle.laws.proofs.Blocks.{block-sum, entry-sum, member-part, member-same, entry-same, stored-same, length-member, length-entry, member-words, entry-words, entry-read, stored-read, idle-read, opening-read}
+use Rattle.model.specs.Table.{blocksAt, blockSize, entrySize, hostSize, blockAt, hostAt, entryAt, tableSize, memberOf, entryOf, storedOf}
+use Rattle.model.specs.Table.{membersOf, hostOf, storedRecordsOf, boardOf, memberWords, entryWords, hostWords, tableWords}
+use Rattle.laws.proofs.Blocks.{block-sum, entry-sum, member-part, member-same, entry-same, stored-same, length-member}
+use Rattle.laws.proofs.Blocks.{length-entry, member-words, entry-words, entry-read, stored-read, idle-read, opening-read}
 
 -- Sizes.
 
@@ -157,7 +161,8 @@ length-members n members = length-laid (blockSize n) (λ i. memberWords n (membe
 
 pub length-host : (n : ℕ) (host : ℕ → Entry) (stored : ℕ → Rec) → length (hostWords n host stored) ≡ hostSize n
 unfolding hostWords hostSize
-length-host n host stored = length-laid (entrySize n) (λ r. entryWords n (host r) (stored r)) n (λ r p q. length-entry n (host r) (stored r))
+length-host n host stored = length-laid (entrySize n) (λ r. entryWords n (host r) (stored r)) n
+    (λ r p q. length-entry n (host r) (stored r))
 
 pub length-table : (n : ℕ) (b : Board) → length (tableWords n b) ≡ tableSize n
 unfolding tableWords tableSize hostAt
@@ -177,11 +182,14 @@ unfolding boardOf tableWords hostAt membersOf hostOf storedRecordsOf hostWords
 table-read n b = board-by
     (members-same n (from (words (tableWords n b)) blocksAt) (words blocks)
     (λ i p. middle-at (n ∷ []) blocks entries blocksAt i refl (rw (length-members n (b .members)) p))
-    ∙ pieces-laid n idle (blockSize n) (memberOf n) (member-same n) (λ i. memberWords n (b .members i)) (λ i p q. length-member n (b .members i)))
+    ∙ pieces-laid n idle (blockSize n) (memberOf n) (member-same n) (λ i. memberWords n (b .members i))
+    (λ i p q. length-member n (b .members i)))
     (host-same n (from (words (tableWords n b)) (hostAt n)) (words entries) after
-    ∙ pieces-laid n noEntry (entrySize n) (entryOf n) (entry-same n) (λ r. entryWords n (b .host r) (b .stored r)) (λ r p q. length-entry n (b .host r) (b .stored r)))
+    ∙ pieces-laid n noEntry (entrySize n) (entryOf n) (entry-same n) (λ r. entryWords n (b .host r) (b .stored r))
+    (λ r p q. length-entry n (b .host r) (b .stored r)))
     (stored-records-same n (from (words (tableWords n b)) (hostAt n)) (words entries) after
-    ∙ pieces-laid n zeroRecord (entrySize n) (storedOf n) (stored-same n) (λ r. entryWords n (b .host r) (b .stored r)) (λ r p q. length-entry n (b .host r) (b .stored r)))
+    ∙ pieces-laid n zeroRecord (entrySize n) (storedOf n) (stored-same n) (λ r. entryWords n (b .host r) (b .stored r))
+    (λ r p q. length-entry n (b .host r) (b .stored r)))
   where
     blocks : List ℕ
     blocks = laid n (λ i. memberWords n (b .members i))
@@ -213,14 +221,16 @@ board-member-part n i l p q = member-part n l (blockAt n i) ∙ sym (member-at n
 pub host-part : (n : ℕ) (l : List ℕ) (a : ℕ) → hostOf n (words (take (hostSize n) (drop a l))) ≡ hostOf n (from (words l) a)
 host-part n l a = host-same n (words (take (hostSize n) (drop a l))) (from (words l) a) (part-at l a (hostSize n))
 
-pub stored-records-part : (n : ℕ) (l : List ℕ) (a : ℕ) → storedRecordsOf n (words (take (hostSize n) (drop a l))) ≡ storedRecordsOf n (from (words l) a)
+pub stored-records-part : (n : ℕ) (l : List ℕ) (a : ℕ) → storedRecordsOf n (words (take (hostSize n) (drop a l)))
+    ≡ storedRecordsOf n (from (words l) a)
 stored-records-part n l a = stored-records-same n (words (take (hostSize n) (drop a l))) (from (words l) a) (part-at l a (hostSize n))
 
 pub board-host-part : (n : ℕ) (l : List ℕ) → hostOf n (words (take (hostSize n) (drop (hostAt n) l))) ≡ boardOf n (words l) .host
 unfolding boardOf
 board-host-part n l = host-part n l (hostAt n)
 
-pub board-stored-part : (n : ℕ) (l : List ℕ) → storedRecordsOf n (words (take (hostSize n) (drop (hostAt n) l))) ≡ boardOf n (words l) .stored
+pub board-stored-part : (n : ℕ) (l : List ℕ) → storedRecordsOf n (words (take (hostSize n) (drop (hostAt n) l)))
+    ≡ boardOf n (words l) .stored
 unfolding boardOf
 board-stored-part n l = stored-records-part n l (hostAt n)
 
@@ -239,7 +249,8 @@ board-block n i g w p q = board-by
     kept = from-pasted-above (blockAt n i) (blockSize n) g w (hostAt n) (block-room n i p q)
 
 pub board-host : (n : ℕ) (g w : ℕ → ℕ)
-    → boardOf n (pasted (hostAt n) (hostSize n) g w) ≡ record { members = boardOf n w .members; host = hostOf n g; stored = storedRecordsOf n g }
+    → boardOf n (pasted (hostAt n) (hostSize n) g w) ≡ record
+    { members = boardOf n w .members; host = hostOf n g; stored = storedRecordsOf n g }
 unfolding boardOf hostAt
 board-host n g w = board-by
     (members-same n (from (pasted (hostAt n) (hostSize n) g w) blocksAt) (from w blocksAt)
@@ -282,5 +293,6 @@ module _ (n r : ℕ) (l p : List ℕ) (low : 1 ≤ r) (high : r ≤ n) (whole : 
   pub host-entry-put : hostOf n (words (replaced l (place (entrySize n) r) p)) ≡ put (hostOf n (words l)) r (entryOf n (words p))
   host-entry-put = ap (hostOf n) entry-run ∙ host-entry n r (words p) (words l) low high
 
-  pub host-stored-put : storedRecordsOf n (words (replaced l (place (entrySize n) r) p)) ≡ put (storedRecordsOf n (words l)) r (storedOf n (words p))
+  pub host-stored-put : storedRecordsOf n (words (replaced l (place (entrySize n) r) p))
+      ≡ put (storedRecordsOf n (words l)) r (storedOf n (words p))
   host-stored-put = ap (storedRecordsOf n) entry-run ∙ host-stored n r (words p) (words l) low high

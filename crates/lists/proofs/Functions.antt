@@ -238,7 +238,8 @@ module _ {A : Type 0} where
   -- the first k values alone, the rest blank
   pub numbered-padded : (n k : ℕ) (d : A) (g : ℕ → A) → k ≤ n → numbered n d (pasted 0 k g (λ i. d)) ≡ numbered k d g
   numbered-padded n k d g h = fun-ext λ j. by-place 1 k j
-      (λ p. let e : j ≡ 0 = omega arith in rw e (numbered-off n d (pasted 0 k g (λ i. d)) 0 (inside-zero n) ∙ sym (numbered-off k d g 0 (inside-zero k))))
+      (λ p. let e : j ≡ 0 = omega arith in
+      rw e (numbered-off n d (pasted 0 k g (λ i. d)) 0 (inside-zero n) ∙ sym (numbered-off k d g 0 (inside-zero k))))
       (λ p q. let e : j ≡ j - 1 + 1 = omega arith in rw e
       (numbered-at n d (pasted 0 k g (λ i. d)) (j - 1) (omega arith)
       ∙ pasted-in 0 k g (λ i. d) (j - 1) (omega arith) (omega arith)

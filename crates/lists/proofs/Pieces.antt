@@ -1,12 +1,12 @@
 -- Laws of things of one size laid one after the other.
 use Prim.Native.Nat.{ℕ, zero, suc, _+_, _-_, _*_, _≤_, _<_}
-use native.Mathlib.Nat.{suc-mul, zero-mul, zero-add, suc-add, mul-le-mul-right}
+use native.Mathlib.Nat.{suc-mul, zero-mul, mul-le-mul-right}
 use native.Mathlib.Numerals.{add-one}
 use native.Mathlib.Nat.{mul-le-mul}
 use native.Mathlib.Omega.{arith}
 use mathlib.Core.Path.{_≡_, sym, ap, _∙_, fun-ext}
 use mathlib.Core.Bool.{false}
-use mathlib.Core.List.{List, _∷_, _++_, append-assoc}
+use mathlib.Core.List.{List, _++_, append-assoc}
 use lib.Dec.{eqb, ltb}
 use lib.ListN.{length, take, drop, length-append, List·getD-append}
 use lib.Seq.{getD-take, getD-drop, getD-append-add}
@@ -14,8 +14,9 @@ use borrow.Author.Tests.{eqb-true, eqb-false, ltb-true, ltb-false}
 use Rattle.lists.specs.Functions.{put, pasted, from, inside, within}
 use Rattle.lists.specs.Parts.{words, tabulate, replaced}
 use Rattle.lists.specs.Pieces.{place, pieces, laid}
-use Rattle.lists.proofs.Functions.{on, by-place, put-at, put-off, pasted-in, pasted-below, pasted-above, inside-low, inside-high, within-at, within-off, within-same, from-pasted-at, from-pasted-below, from-pasted-above}
-use Rattle.lists.proofs.Parts.{tabulate-same, tabulate-words, tabulate-append}
+use Rattle.lists.proofs.Functions.{on, by-place, put-at, put-off, pasted-in, pasted-below, pasted-above, inside-low, inside-high}
+use Rattle.lists.proofs.Functions.{within-at, within-off, within-same, from-pasted-at, from-pasted-below, from-pasted-above}
+use Rattle.lists.proofs.Parts.{tabulate-words, tabulate-append}
 
 -- Words from a place on.
 
@@ -112,7 +113,8 @@ module _ (s : ℕ) (f : ℕ → List ℕ) where
       long = length-laid n fewer
 
   -- the runs of a function's values are its values in one run
-  pub laid-tabulate : (n : ℕ) (w : ℕ → ℕ) → ((k : ℕ) → 1 ≤ k → k ≤ n → f k ≡ tabulate s (from w (place s k))) → laid n f ≡ tabulate (n * s) w
+  pub laid-tabulate : (n : ℕ) (w : ℕ → ℕ) → ((k : ℕ) → 1 ≤ k → k ≤ n → f k ≡ tabulate s (from w (place s k))) → laid n f
+      ≡ tabulate (n * s) w
   unfolding laid tabulate
   laid-tabulate zero w h = rw zero-mul
   laid-tabulate (suc n) w h =
@@ -149,7 +151,8 @@ module _ {A : Type 0} (n : ℕ) (d : A) (s : ℕ) (f : (ℕ → ℕ) → A) wher
         ∙ sym (put-off (pieces n d s f w) k (f g) j c))
       where
         here : pieces n d s f (pasted (place s k) s g w) k ≡ f g
-        here = pieces-at (pasted (place s k) s g w) k p q ∙ looks (from (pasted (place s k) s g w) (place s k)) g (from-pasted-at (place s k) s g w)
+        here = pieces-at (pasted (place s k) s g w) k p q
+            ∙ looks (from (pasted (place s k) s g w) (place s k)) g (from-pasted-at (place s k) s g w)
 
         there : (j : ℕ) → (j ≡ k → ⊥) → 1 ≤ j → j ≤ n → pieces n d s f (pasted (place s k) s g w) j ≡ pieces n d s f w j
         there j c a b =

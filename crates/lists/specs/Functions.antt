@@ -1,7 +1,7 @@
 -- Functions of an index: how words, rows and matrices are written in every specification. A function has no length, so that a
 -- definition says only what stands where.
 use Prim.Native.Nat.{ℕ, zero, suc, _+_, _-_, _≤_}
-use mathlib.Core.Bool.{Bool, true, false, cond, _&&_}
+use mathlib.Core.Bool.{Bool, true, cond, _&&_}
 use lib.Dec.{eqb, leb, ltb}
 
 module _ {A : Type 0} where

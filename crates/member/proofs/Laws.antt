@@ -11,11 +11,13 @@ use lib.ListN.{take, drop, set}
 use Rattle.lists.specs.Functions.{put, pasted, from, within, Within}
 use Rattle.lists.specs.Parts.{words, replaced}
 use Rattle.lists.proofs.Functions.{apart, put-at, put-off, from-from, from-pasted-at}
-use Rattle.model.specs.Records.{Rec, read, write, zeroValue, matrixWithin, recordWithin}
+use Rattle.model.specs.Records.{Rec, read, zeroValue, matrixWithin, recordWithin}
 use Rattle.model.specs.RecordWords.{valueAt, matrixAt, recordSize, rowOf, matrixOf, valueOf, recordOf, recordWords}
-use Rattle.model.specs.Member.{Member, moved, haltNumber, joined, ownRecord, passed, failed, replied, completed, dropped, tookOver, returnedBy}
+use Rattle.model.specs.Member.{Member, moved, haltNumber, joined, ownRecord, passed, failed, replied, completed, dropped, tookOver}
+use Rattle.model.specs.Member.{returnedBy}
 use Rattle.model.specs.Board.{sentRecord}
-use Rattle.model.specs.Table.{phaseAt, haltAt, slotAt, operationAt, ownAt, acceptedAt, lastAt, pendingAt, knownAt, firstAt, secondAt, blockSize, memberOf}
+use Rattle.model.specs.Table.{phaseAt, haltAt, slotAt, operationAt, ownAt, acceptedAt, lastAt, pendingAt, knownAt, firstAt, secondAt}
+use Rattle.model.specs.Table.{blockSize, memberOf}
 use Rattle.laws.proofs.Records.{recordOf-parts, recordOf-same, recordOf-words, within-read}
 use Rattle.laws.proofs.Replies.{matrix-all, value-all, joined-within, haltNumber-within}
 use Rattle.laws.proofs.Steps.{Holds, holds-set, holds-copied, count-of, kept, moved-by, pasted-off}

@@ -16,7 +16,8 @@ use Rattle.model.specs.Kinds.{concur, barred}
 use Rattle.model.specs.Member.{Member}
 use Rattle.model.specs.Table.{blockSize, memberOf, memberWords, soundRecord, soundOperation, soundMember, blockNumber}
 use Rattle.model.specs.Numbers.{orElse}
-use Rattle.model.specs.Halves.{unlessRefused, fitRecord, memberNumber, memberBeginNumber, notWaiting, replyNumber, outcomeNumber, memberCrashNumber}
+use Rattle.model.specs.Halves.{unlessRefused, fitRecord, memberNumber, memberBeginNumber, notWaiting, replyNumber, outcomeNumber}
+use Rattle.model.specs.Halves.{memberCrashNumber}
 use Rattle.model.proofs.Answers.{begin-taken}
 use Rattle.laws.proofs.Blocks.{member-back}
 use Rattle.member.specs.Needs.{Block, Running}

@@ -1,16 +1,16 @@
 -- Demand 3, whole: what is claimed of every list of calls from an opened board with an honest host.
 use Prim.Native.Nat.{ℕ, _<_}
 use mathlib.Core.Path.{_≡_}
-use mathlib.Core.Bool.{Bool, true, false, not}
+use mathlib.Core.Bool.{not}
 use mathlib.Core.List.{List, [], _∷_, map}
-use mathlib.Core.Option.{Option, none, some}
+use mathlib.Core.Option.{some}
 use Rattle.lists.specs.Every.{Every}
-use Rattle.model.specs.Records.{Value, read}
+use Rattle.model.specs.Records.{read}
 use Rattle.model.specs.Kinds.{Kind}
-use Rattle.model.specs.Board.{Board, opened}
-use Rattle.model.specs.Runs.{Call, Seen, run}
-use Rattle.model.specs.Reference.{Operation, Reference, refOpened, refRun, refLeft}
-use Rattle.model.specs.History.{Op, Watch, watched, acceptedOf, lastWritten, contested}
+use Rattle.model.specs.Board.{Board}
+use Rattle.model.specs.Runs.{Call, Seen}
+use Rattle.model.specs.Reference.{refOpened, refRun, refLeft}
+use Rattle.model.specs.History.{Op, watched, acceptedOf, lastWritten, contested}
 use Rattle.model.specs.Positions.{Positions}
 use Rattle.model.specs.ReplyChecks.{Checked}
 

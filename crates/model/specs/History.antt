@@ -1,12 +1,12 @@
 -- The history of a run, as one who watches it collects it: from the calls and from what is seen at each, and from nothing inside the
 -- board. Positions are step numbers from 1, 0 where a thing has not happened.
 use Prim.Native.Nat.{ℕ, _+_}
-use mathlib.Core.Bool.{Bool, true, false, cond, _&&_, _||_}
+use mathlib.Core.Bool.{Bool, false, cond, _&&_, _||_}
 use mathlib.Core.List.{List, [], _∷_}
-use mathlib.Core.Option.{Option, none, some}
+use mathlib.Core.Option.{Option, none}
 use lib.Dec.{eqb, ltb}
 use Rattle.lists.specs.Functions.{put}
-use Rattle.model.specs.Records.{Value, read, write, zeroValue}
+use Rattle.model.specs.Records.{Value, write, zeroValue}
 use Rattle.model.specs.Runs.{Call, begin, deliver, crash, Seen}
 use Rattle.model.specs.Reference.{Operation}
 

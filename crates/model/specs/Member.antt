@@ -1,11 +1,11 @@
 -- The member half: its state and its steps. Numbers such as 3.8 are lines of Algorithm 3 in document 000; the sentences are document
 -- 01's. Member i is the one whose state m is, r its slot.
 use Prim.Native.Nat.{ℕ, _+_}
-use mathlib.Core.Bool.{Bool, true, false, cond, not, _&&_, _||_}
+use mathlib.Core.Bool.{Bool, cond, not, _&&_, _||_}
 use mathlib.Core.Option.{Option, none, some}
 use lib.Dec.{eqb, leb}
 use Rattle.lists.specs.Functions.{put, each}
-use Rattle.model.specs.Rows.{Row, Matrix, below, matrixBelow, comparable, larger, zeroMatrix}
+use Rattle.model.specs.Rows.{Matrix, matrixBelow, comparable, larger, zeroMatrix}
 use Rattle.model.specs.Records.{Value, Rec, read, write, zeroValue, zeroRecord}
 
 -- "Member block: phase, crash mark, halt number, slot, type, own counts (n), accepted counts (n), last accepted own sheet, pending
@@ -178,7 +178,8 @@ rested m known = record {
   second = zeroRecord;
 }
 
--- Taking the outcome aborted (3.22 to 3.24): "as 4's zeroing, phase 0, and nothing else." Amendment 1: line 3.21 takes over the matrix of an
+-- Taking the outcome aborted (3.22 to 3.24): "as 4's zeroing, phase 0, and nothing else." Amendment 1: line 3.21 takes over the matrix of
+-- an
 -- aborted operation too; here only an accepted one's is taken over.
 unfoldable pub dropped : Member → Member
 dropped m = rested m (m .known)

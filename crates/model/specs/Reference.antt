@@ -1,7 +1,7 @@
 -- The reference of a run: document 01's "book of a run". It is fed n and the calls alone, no answer and nothing from a table, and knows
 -- no timestamps.
 use Prim.Native.Nat.{ℕ, _+_}
-use mathlib.Core.Bool.{Bool, true, false, cond, not, _&&_, _||_}
+use mathlib.Core.Bool.{Bool, true, false, cond, _&&_, _||_}
 use mathlib.Core.List.{List, [], _∷_}
 use mathlib.Core.Option.{Option, none, some}
 use lib.Dec.{eqb}

@@ -1,5 +1,4 @@
 -- What a row and a matrix held by value stand for: all twelve counts of all twelve rows, under the numbers 1 to 12.
-use Prim.Native.Nat.{ℕ}
 use mathlib.Core.List.{List, []}
 use lib.ListN.{getD}
 use Rattle.lists.specs.Functions.{numbered}

@@ -13,7 +13,7 @@ use Rattle.model.specs.Board.{opened}
 use Rattle.model.specs.Runs.{Call}
 use Rattle.lists.specs.Every.{Every}
 use Rattle.model.specs.Table.{tableSize, tableWords}
-use Rattle.model.specs.TableCalls.{openNumber, openWords, tableSeen, tableRun}
+use Rattle.model.specs.TableCalls.{openNumber, openWords, tableRun}
 use Rattle.model.specs.Script.{Line, writes, reads, delivers, crashes, malformed, lineOf, callOf, stepped, stepLine, stepsFrom}
 use Rattle.model.specs.Script.{linesOf, firstOf, mostSteps, boardRun, linesRun, scriptRun, printedRun, scriptOutput}
 use Rattle.laws.proofs.Tables.{length-table}
@@ -37,7 +37,8 @@ steps-made kind table (line ∷ lines) =
 
 -- the step of a line before those of the others, whose calls are made on the table that it leaves
 stepped-seen : (kind : Kind) (table : List ℕ) (call : Option Call) (calls : List Call)
-    → withSeen (stepped kind table call .happened) (tableRun kind (stepped kind table call .table) calls) ≡ tableRun kind table (withCall call calls)
+    → withSeen (stepped kind table call .happened) (tableRun kind (stepped kind table call .table) calls)
+    ≡ tableRun kind table (withCall call calls)
 unfolding stepped withSeen withCall tableRun
 stepped-seen kind table none calls = refl
 stepped-seen kind table (some call) calls = refl

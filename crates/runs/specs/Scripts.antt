@@ -38,14 +38,16 @@ unfoldable pub seenOf : List (Option Step) → List Seen
 seenOf [] = []
 seenOf (s ∷ steps) = withSeen s (seenOf steps)
 
--- The claim about the steps of a script's lines: the k-th step makes the k-th line's call, what is seen at the steps is the run of these calls
+-- The claim about the steps of a script's lines: the k-th step makes the k-th line's call, what is seen at the steps is the run of these
+-- calls
 -- on the opened table, and of that run demand 3 holds.
 pub record StepsRun (kind : Kind) (n : ℕ) (lines : List (List ℕ)) (steps : List (Option Step)) : Type 0 where
   pub made : map stepCall steps ≡ map lineCall lines
   pub run : seenOf steps ≡ tableRun kind (tableWords n (opened n)) (callsOf lines)
   pub holds : Demand3 kind n (callsOf lines) (tableBoards kind (tableWords n (opened n)) (callsOf lines)) (seenOf steps)
 
--- The claim about a whole script whose first line names n: its steps, of which there are 1,000,000 at most, are such a run, and what is printed
+-- The claim about a whole script whose first line names n: its steps, of which there are 1,000,000 at most, are such a run, and what is
+-- printed
 -- is `board N` and these steps.
 pub record ScriptRun (kind : Kind) (n : ℕ) (lines : List (List ℕ)) (whole : Run) (output : List ℕ) : Type 0 where
   pub steps : List (Option Step)

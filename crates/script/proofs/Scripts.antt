@@ -31,7 +31,8 @@ use Rattle.model.specs.Script.{refusedLine, printedRun, scriptOutput}
 use Rattle.script.specs.Examples.{Holds, examples}
 
 pub every-example : Every Holds examples
-unfolding examples zeroRow zeroMatrix below matrixBelow comparable larger withCount zeroValue opening zeroRecord recordWithin isOperation barred
+unfolding examples zeroRow zeroMatrix below matrixBelow comparable larger withCount zeroValue opening zeroRecord recordWithin isOperation
+    barred
     becomesStored fieldsNumber beginAnswer deliverAnswer crashAnswer idle begun answered check21 check22 check23 check24 check25 check26
     check27 haltNumber joined ownRecord passed failed replied judged completed tookOver dropped outcome returnedBy crashedOf submitted
     wins entryAfter storedAfter noEntry openingEntry opened withMember boardBegun submitTaken replyTaken sentRecord commitTaken

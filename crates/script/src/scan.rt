@@ -47,7 +47,8 @@ pub fn starts_with(t: &[u8], word: &[u8]) -> bool
 
 // Where the first byte b stands, or the length.
 pub fn find(t: &[u8], b: u8) -> usize
-    ensures { λ r. ⌜ (r ≤ length (now (t .entry))) × ((take r (now (t .entry)) ≡ before b (now (t .entry))) × (drop (r + 1) (now (t .entry)) ≡ beyond b (now (t .entry)))) ⌝ }
+    ensures { λ r. ⌜ (r ≤ length (now (t .entry)))
+        × ((take r (now (t .entry)) ≡ before b (now (t .entry))) × (drop (r + 1) (now (t .entry)) ≡ beyond b (now (t .entry)))) ⌝ }
 {
     let mut i = 0;
     while i < t.len() {

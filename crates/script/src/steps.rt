@@ -84,7 +84,8 @@ pub fn print_line(
     value: u32,
 ) -> usize
     requires { ⌜ at + length (printedLine step answer (given phased phase) (given returned value)) ≤ length (now out) ⌝ }
-    ensures { λ r. ⌜ Printed (now (out .entry)) (now (out .exit)) at (printedLine step answer (given phased phase) (given returned value)) r ⌝ }
+    ensures { λ r. ⌜ Printed (now (out .entry)) (now (out .exit)) at
+        (printedLine step answer (given phased phase) (given returned value)) r ⌝ }
 {
     let second = print_field(out, at, true, step, b' ');
     let third = print_field(out, second, true, answer, b' ');

@@ -116,7 +116,10 @@ module _ (table line : List ℕ) (read : LineStruct) (e : read ≡ heldLine (lin
   step-malformed k = rw (no-call (lineOf line) (ap (λ r. r .kind) (sym e) ∙ k))
 
   pub step-made : (read .kind ≡ 0 → ⊥) → stepLine concur table line
-      ≡ record { table = tableAfter concur table (callBy read); happened = some (step (callBy read) (tableSeen concur table (callBy read))) }
+      ≡ record {
+        table = tableAfter concur table (callBy read);
+        happened = some (step (callBy read) (tableSeen concur table (callBy read)));
+      }
   unfolding stepLine stepped
   step-made k = rw (some-call (lineOf line) (λ h. k (ap (λ r. r .kind) e ∙ h)) ∙ ap (λ r. some (callBy r)) (sym e))
 

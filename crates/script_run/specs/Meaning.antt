@@ -16,7 +16,8 @@ use Rattle.member.specs.Results.{returnedIn}
 use Rattle.script.specs.Meaning.{Printed}
 use Rattle.script.specs.declared.Line.{Line as LineStruct}
 use Rattle.tables.specs.Needs.{Table}
-use Rattle.script_run.specs.Feeding.{State, Event, refuses, opens, steps, Fed, mostKept, over, firstRun, fed, lastEvents, printedEvents}
+use Rattle.script_run.specs.Feeding.{State, Event, refuses, opens, steps, Fed, mostKept, over, firstRun, fed, lastEvents}
+use Rattle.script_run.specs.Feeding.{printedEvents}
 use Rattle.script_run.specs.declared.Progress.{Progress}
 use Rattle.script_run.specs.declared.Done.{Done}
 use Rattle.script_run.specs.declared.Event.{Event as EventStruct}

@@ -1,4 +1,5 @@
-// A script fed in pieces, line by line and by value, and what the board program prints of it. Each function asks for the room that it needs.
+// A script fed in pieces, line by line and by value, and what the board program prints of it. Each function asks for the room that it
+// needs.
 ghost use mathlib.Core.Path.{_≡_};
 ghost use mathlib.Core.Bool.{Bool, cond, not, _||_};
 ghost use mathlib.Core.List.{List, []};
@@ -43,7 +44,8 @@ fn none_ended(progress: Progress, taken: usize) -> Fed
     }
 }
 
-// Bytes of a script, up to the end of a line and with its line feed, and what happened at it. All of them, and nothing, if the script is over.
+// Bytes of a script, up to the end of a line and with its line feed, and what happened at it. All of them, and nothing, if the script is
+// over.
 pub fn take_line(table: &mut [u32], kept: &mut [u8], p: Progress, bytes: &[u8]) -> Fed
     requires { ⌜ Ready p (now table) (now kept) ⌝ }
     ensures { λ r. ⌜ Took p (now (table .entry)) (now (kept .entry)) (now (bytes .entry)) r (now (table .exit)) (now (kept .exit)) ⌝ }

@@ -11,7 +11,8 @@ use Rattle.lists.proofs.Parts.{words-replaced}
 use Rattle.lists.proofs.Pieces.{put-back}
 use Rattle.model.specs.Member.{Member}
 use Rattle.model.specs.Board.{Board, withMember}
-use Rattle.model.specs.Table.{blockSize, blockAt, hostAt, hostSize, tableSize, memberOf, hostOf, storedRecordsOf, boardOf, tableWords, soundHost}
+use Rattle.model.specs.Table.{blockSize, blockAt, hostAt, hostSize, tableSize, memberOf, hostOf, storedRecordsOf, boardOf, tableWords}
+use Rattle.model.specs.Table.{soundHost}
 use Rattle.laws.proofs.Tables.{board-member-part, board-member-put, board-host-part, board-stored-part, board-host-put, table-back}
 use Rattle.member.specs.Needs.{Block, Running}
 use Rattle.host.specs.Needs.{Entries, Slot}

@@ -42,10 +42,4 @@ pub open-spec : {M : Type 1} → statement M
 open-spec =
     tie.close
     (tie.spec
-    (λ c κs. search needs)
-    returns
-    table-size-requires
-    returns-2
-    open-all-requires
-    (λ c. search needs)
-    returns-3)
+    (λ c κs. search needs) returns table-size-requires returns-2 open-all-requires (λ c. search needs) returns-3)

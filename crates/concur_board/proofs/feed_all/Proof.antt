@@ -9,7 +9,7 @@ use lib.Seq.{length-take-le, take-all}
 use Rattle.model.specs.Kinds.{concur}
 use Rattle.script.specs.Meaning.{longestPrinted}
 use Rattle.script_run.specs.Feeding.{fed}
-use Rattle.script_run.specs.Meaning.{stateOf, Ready, FedAll, went, failed}
+use Rattle.script_run.specs.Meaning.{stateOf, Ready, went, failed}
 use Rattle.script_run.specs.declared.Progress.{Progress}
 use Rattle.script_run.proofs.States.{rest-long, fed-then, took-some, over-ready, over-held}
 use Rattle.concur_board.proofs.feed_all.Statement.{statement}
@@ -126,24 +126,7 @@ pub feed-all-spec : {M : Type 1} → statement M
 feed-all-spec =
     tie.close
     (tie.spec
-    Inv-loop
-    μ-loop
-    loop-holds
-    (λ c. search needs)
-    (λ c. search needs)
-    (λ c. search needs)
-    feed-requires
-    (λ c. search needs)
-    slice-aggregate-write-out
-    (λ c κs. search needs)
-    (λ c. search needs)
-    (λ c. search needs)
-    (λ c. search needs)
-    returns
-    add-from
-    loop-less
-    loop-again
-    (λ c. search needs)
-    (λ c. search needs)
-    (λ c. search needs)
-    returns-2)
+    Inv-loop μ-loop loop-holds (λ c. search needs) (λ c. search needs) (λ c. search needs) feed-requires
+    (λ c. search needs) slice-aggregate-write-out (λ c κs. search needs) (λ c. search needs) (λ c. search needs)
+    (λ c. search needs) returns add-from loop-less loop-again (λ c. search needs) (λ c. search needs)
+    (λ c. search needs) returns-2)

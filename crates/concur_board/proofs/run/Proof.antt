@@ -87,19 +87,6 @@ pub run-spec : {M : Type 1} → statement M
 run-spec =
     tie.close
     (tie.spec
-    Inv-loop
-    μ-loop
-    loop-holds
-    read-some-requires
-    (λ c. search needs)
-    loop-less
-    loop-again
-    finish-requires
-    (λ c. search needs)
-    slice-aggregate-write-out
-    (λ c κs. search needs)
-    (λ c. search needs)
-    (λ c. search needs)
-    (λ c. search needs)
-    (λ c. search needs)
-    (λ c. search needs))
+    Inv-loop μ-loop loop-holds read-some-requires (λ c. search needs) loop-less loop-again finish-requires
+    (λ c. search needs) slice-aggregate-write-out (λ c κs. search needs) (λ c. search needs) (λ c. search needs)
+    (λ c. search needs) (λ c. search needs) (λ c. search needs))

@@ -54,11 +54,5 @@ pub take-commit-spec : {M : Type 1} → statement M
 take-commit-spec =
     tie.close
     (tie.spec
-    (λ c κs. search needs)
-    (λ c. search needs)
-    returns
-    commit-requires
-    (λ c. search needs)
-    returns-2
-    (λ c. search needs)
+    (λ c κs. search needs) (λ c. search needs) returns commit-requires (λ c. search needs) returns-2 (λ c. search needs)
     returns-3)

@@ -44,11 +44,5 @@ pub take-submit-spec : {M : Type 1} → statement M
 take-submit-spec =
     tie.close
     (tie.spec
-    (λ c κs. search needs)
-    (λ c κs. search needs)
-    (λ c κs. search needs)
-    (λ c. search needs)
-    returns
-    submit-requires
-    (λ c. search needs)
-    returns-2)
+    (λ c κs. search needs) (λ c κs. search needs) (λ c κs. search needs) (λ c. search needs) returns submit-requires
+    (λ c. search needs) returns-2)

@@ -51,10 +51,5 @@ pub take-outcome-spec : {M : Type 1} → statement M
 take-outcome-spec =
     tie.close
     (tie.spec
-    (λ c κs. search needs)
-    (λ c κs. search needs)
-    (λ c. search needs)
-    returns
-    finish-requires
-    (λ c. search needs)
+    (λ c κs. search needs) (λ c κs. search needs) (λ c. search needs) returns finish-requires (λ c. search needs)
     returns-2)

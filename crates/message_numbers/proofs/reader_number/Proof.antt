@@ -141,23 +141,7 @@ pub reader-number-spec : {M : Type 1} → statement M
 reader-number-spec =
     tie.close
     (tie.spec
-    (λ c κs. search needs)
-    returns
-    returns-2
-    (λ c. search needs)
-    (λ c. search needs)
-    (λ c. search needs)
-    (λ c κs. search needs)
-    returns-3
-    (λ c. search needs)
-    (λ c κs. search needs)
-    returns-4
-    (λ c. search needs)
-    (λ c κs. search needs)
-    (λ c κs. search needs)
-    returns-5
-    length-of-requires
-    returns-6
-    fields-fit-requires
-    returns-7
+    (λ c κs. search needs) returns returns-2 (λ c. search needs) (λ c. search needs) (λ c. search needs)
+    (λ c κs. search needs) returns-3 (λ c. search needs) (λ c κs. search needs) returns-4 (λ c. search needs)
+    (λ c κs. search needs) (λ c κs. search needs) returns-5 length-of-requires returns-6 fields-fit-requires returns-7
     returns-8)

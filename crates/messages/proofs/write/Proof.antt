@@ -58,10 +58,5 @@ pub write-spec : {M : Type 1} → statement M
 write-spec =
     tie.close
     (tie.spec
-    (λ c κs. search needs)
-    returns
-    length-of-requires
-    add-length
-    (λ c κs. none (c .before .before))
-    (λ c. c .before .before .write-message .kept .0)
-    returns-2)
+    (λ c κs. search needs) returns length-of-requires add-length (λ c κs. none (c .before .before))
+    (λ c. c .before .before .write-message .kept .0) returns-2)

@@ -1,14 +1,14 @@
 -- `matrix_below` meets its contract: each row passed is below its fellow. Assumes nothing.
 use borrow.Author.Needs.{needs}
-use Prim.Native.Nat.{ℕ, _+_, _-_, _≤_, _<_, min}
-use mathlib.Core.Path.{_≡_, refl, sym, ap, _∙_}
-use mathlib.Core.Bool.{Bool, true, false}
+use Prim.Native.Nat.{_-_, _≤_, min}
+use mathlib.Core.Path.{_≡_, sym, _∙_}
+use mathlib.Core.Bool.{true}
 use native.Mathlib.Omega.{arith}
 use borrow.Author.Tests.{not-true, not-false}
 use Rattle.lists.specs.Functions.{each}
 use Rattle.lists.proofs.Functions.{each-none}
 use Rattle.model.specs.Rows.{below, matrixBelow}
-use Rattle.rows.specs.Meaning.{rowIn, matrixIn}
+use Rattle.rows.specs.Meaning.{matrixIn}
 use Rattle.rows.proofs.Laws.{rows-below-more, rows-below-fails}
 use Rattle.rows.proofs.matrix_below.Statement.{statement}
 use Rattle.rows.proofs.matrix_below.Tie as tie
@@ -60,17 +60,5 @@ pub matrix-below-spec : {M : Type 1} → statement M
 matrix-below-spec =
     tie.close
     (tie.spec
-    Inv-loop
-    μ-loop
-    (λ c κs. search needs)
-    loop-holds
-    (λ c. search needs)
-    (λ c. search needs)
-    (λ c. search needs)
-    (λ c. search needs)
-    (λ c κs. search needs)
-    returns
-    (λ c. search needs)
-    (λ c. search needs)
-    loop-again
-    returns-2)
+    Inv-loop μ-loop (λ c κs. search needs) loop-holds (λ c. search needs) (λ c. search needs) (λ c. search needs)
+    (λ c. search needs) (λ c κs. search needs) returns (λ c. search needs) (λ c. search needs) loop-again returns-2)

@@ -16,15 +16,11 @@ returns-3 : tie.Need-returns-3
 returns-3 c =
     let q = c .before in
     let p = q .before .before in
-    rw (allowed (p .before .is-numbered .ensures) (p .if1 .left), allowed (q .before .is-numbered2 .ensures) (q .if2 .left)) (c .is-operation .ensures)
+    rw (allowed (p .before .is-numbered .ensures) (p .if1 .left), allowed (q .before .is-numbered2 .ensures) (q .if2 .left))
+    (c .is-operation .ensures)
 
 pub is-fit-spec : {M : Type 1} → statement M
 is-fit-spec =
     tie.close
     (tie.spec
-    (λ c κs. search needs)
-    returns
-    (λ c κs. search needs)
-    returns-2
-    (λ c κs. search needs)
-    returns-3)
+    (λ c κs. search needs) returns (λ c κs. search needs) returns-2 (λ c κs. search needs) returns-3)

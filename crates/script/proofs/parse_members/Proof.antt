@@ -33,11 +33,5 @@ pub parse-members-spec : {M : Type 1} → statement M
 parse-members-spec =
     tie.close
     (tie.spec
-    (λ c. search needs)
-    (λ c κs. search needs)
-    sub-parse-number
-    sub-parse-number
-    (λ c. search needs)
-    (λ c κs. search needs)
-    returns
-    returns-2)
+    (λ c. search needs) (λ c κs. search needs) sub-parse-number sub-parse-number (λ c. search needs)
+    (λ c κs. search needs) returns returns-2)

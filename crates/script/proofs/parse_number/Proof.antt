@@ -3,7 +3,7 @@ use borrow.Author.Needs.{needs}
 use Prim.Native.Nat.{ℕ, _-_, _^_, _≤_, _<_}
 use mathlib.Core.Path.{_≡_, refl, sym, ap, _∙_}
 use mathlib.Core.List.{List}
-use mathlib.Core.Option.{none, some}
+use mathlib.Core.Option.{some}
 use native.Mathlib.Omega.{arith}
 use borrow.Author.Tests.{lt-ltb, le-ltb}
 use lib.ListN.{length, drop}
@@ -101,21 +101,6 @@ pub parse-number-spec : {M : Type 1} → statement M
 parse-number-spec =
     tie.close
     (tie.spec
-    Inv-loop
-    μ-loop
-    returns
-    returns-2
-    (λ c κs. search needs)
-    returns-3
-    loop-holds
-    (λ c. search needs)
-    (λ c κs. search needs)
-    returns-4
-    mul-value
-    add-value
-    (λ c. search needs)
-    (λ c. search needs)
-    loop-again
-    returns-5
-    (λ c. search needs)
-    returns-6)
+    Inv-loop μ-loop returns returns-2 (λ c κs. search needs) returns-3 loop-holds (λ c. search needs)
+    (λ c κs. search needs) returns-4 mul-value add-value (λ c. search needs) (λ c. search needs) loop-again returns-5
+    (λ c. search needs) returns-6)

@@ -1,6 +1,5 @@
 -- `single` meets its contract: the number is read, or it cannot be.
 use borrow.Author.Needs.{needs}
-use mathlib.Core.Path.{_≡_}
 use borrow.Author.Tests.{not-true, not-false}
 use Rattle.model.specs.Script.{numberOf}
 use Rattle.script.specs.Meaning.{heldLine, heldOne}

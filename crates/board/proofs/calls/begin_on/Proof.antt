@@ -84,22 +84,7 @@ pub begin-on-spec : {M : Type 1} → statement M
 begin-on-spec =
     tie.close
     (tie.spec
-    (λ c κs. search needs)
-    returns
-    block-at-requires
-    (λ c κs. search needs)
-    (λ c. search needs)
-    (λ c. search needs)
-    (λ c. search needs)
-    (λ c. search needs)
-    (λ c. search needs)
-    begin-answer-on-requires
-    (λ c. search needs)
-    returns-2
-    (λ c. search needs)
-    (λ c. search needs)
-    (λ c. search needs)
-    (λ c. search needs)
-    begin-requires
-    (λ c. search needs)
+    (λ c κs. search needs) returns block-at-requires (λ c κs. search needs) (λ c. search needs) (λ c. search needs)
+    (λ c. search needs) (λ c. search needs) (λ c. search needs) begin-answer-on-requires (λ c. search needs) returns-2
+    (λ c. search needs) (λ c. search needs) (λ c. search needs) (λ c. search needs) begin-requires (λ c. search needs)
     returns-3)

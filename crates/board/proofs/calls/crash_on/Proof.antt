@@ -78,22 +78,7 @@ pub crash-on-spec : {M : Type 1} → statement M
 crash-on-spec =
     tie.close
     (tie.spec
-    (λ c κs. search needs)
-    returns
-    block-at-requires
-    (λ c κs. search needs)
-    (λ c. search needs)
-    (λ c. search needs)
-    (λ c. search needs)
-    (λ c. search needs)
-    (λ c. search needs)
-    crash-answer-on-requires
-    (λ c. search needs)
-    (λ c. search needs)
-    (λ c. search needs)
-    (λ c. search needs)
-    mark-crashed-requires
-    (λ c. search needs)
-    returns-2
-    (λ c. search needs)
-    returns-3)
+    (λ c κs. search needs) returns block-at-requires (λ c κs. search needs) (λ c. search needs) (λ c. search needs)
+    (λ c. search needs) (λ c. search needs) (λ c. search needs) crash-answer-on-requires (λ c. search needs)
+    (λ c. search needs) (λ c. search needs) (λ c. search needs) mark-crashed-requires (λ c. search needs) returns-2
+    (λ c. search needs) returns-3)

@@ -71,18 +71,6 @@ pub delivered-spec : {M : Type 1} → statement M
 delivered-spec =
     tie.close
     (tie.spec
-    submit-taken-requires
-    (λ c κs. search needs)
-    (λ c. search needs)
-    returns
-    reply-taken-requires
-    (λ c κs. search needs)
-    (λ c. search needs)
-    returns-2
-    commit-taken-requires
-    (λ c κs. search needs)
-    (λ c. search needs)
-    returns-3
-    outcome-taken-requires
-    (λ c. search needs)
-    returns-4)
+    submit-taken-requires (λ c κs. search needs) (λ c. search needs) returns reply-taken-requires (λ c κs. search needs)
+    (λ c. search needs) returns-2 commit-taken-requires (λ c κs. search needs) (λ c. search needs) returns-3
+    outcome-taken-requires (λ c. search needs) returns-4)

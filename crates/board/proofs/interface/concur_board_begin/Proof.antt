@@ -45,13 +45,5 @@ pub concur-board-begin-spec : {M : Type 1} → statement M
 concur-board-begin-spec =
     tie.close
     (tie.spec
-    (λ c κs. search needs)
-    (λ c. search needs)
-    returns
-    (λ c. search needs)
-    returns-2
-    slice-read-n
-    load-value-requires
-    begin-on-requires
-    (λ c. search needs)
-    returns-3)
+    (λ c κs. search needs) (λ c. search needs) returns (λ c. search needs) returns-2 slice-read-n load-value-requires
+    begin-on-requires (λ c. search needs) returns-3)

@@ -69,16 +69,5 @@ pub concur-board-deliver-spec : {M : Type 1} → statement M
 concur-board-deliver-spec =
     tie.close
     (tie.spec
-    (λ c κs. search needs)
-    (λ c. search needs)
-    returns
-    (λ c. search needs)
-    returns-2
-    slice-read-n
-    deliver-on-requires
-    (λ c. search needs)
-    returns-3
-    hand-out-requires
-    (λ c. search needs)
-    (λ c. search needs)
-    returns-4)
+    (λ c κs. search needs) (λ c. search needs) returns (λ c. search needs) returns-2 slice-read-n deliver-on-requires
+    (λ c. search needs) returns-3 hand-out-requires (λ c. search needs) (λ c. search needs) returns-4)

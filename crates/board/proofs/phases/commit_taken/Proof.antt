@@ -50,26 +50,8 @@ pub commit-taken-spec : {M : Type 1} → statement M
 commit-taken-spec =
     tie.close
     (tie.spec
-    (λ c κs. search needs)
-    (λ c κs. search needs)
-    (λ c. search needs)
-    (λ c κs. search needs)
-    (λ c κs. search needs)
-    (λ c. search needs)
-    (λ c. search needs)
-    (λ c. search needs)
-    (λ c. search needs)
-    (λ c. search needs)
-    commit-of-requires
-    (λ c. search needs)
-    (λ c. search needs)
-    (λ c. search needs)
-    (λ c. search needs)
-    commit-requires
-    (λ c. search needs)
-    (λ c. search needs)
-    (λ c. search needs)
-    (λ c. search needs)
-    judge-requires
-    (λ c. search needs)
+    (λ c κs. search needs) (λ c κs. search needs) (λ c. search needs) (λ c κs. search needs) (λ c κs. search needs)
+    (λ c. search needs) (λ c. search needs) (λ c. search needs) (λ c. search needs) (λ c. search needs)
+    commit-of-requires (λ c. search needs) (λ c. search needs) (λ c. search needs) (λ c. search needs) commit-requires
+    (λ c. search needs) (λ c. search needs) (λ c. search needs) (λ c. search needs) judge-requires (λ c. search needs)
     returns)

@@ -38,8 +38,4 @@ pub hand-out-spec : {M : Type 1} → statement M
 hand-out-spec =
     tie.close
     (tie.spec
-    (λ c κs. search needs)
-    (λ c. search needs)
-    store-value-requires
-    same-length
-    returns)
+    (λ c κs. search needs) (λ c. search needs) store-value-requires same-length returns)

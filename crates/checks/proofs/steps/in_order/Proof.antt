@@ -1,6 +1,5 @@
 -- `in_order` meets its contract: what is skipped passes, and else the rows are compared.
 use borrow.Author.Needs.{needs}
-use mathlib.Core.Path.{refl}
 use Rattle.checks.proofs.steps.in_order.Statement.{statement}
 use Rattle.checks.proofs.steps.in_order.Tie as tie
 

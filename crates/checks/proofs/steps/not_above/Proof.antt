@@ -1,5 +1,4 @@
 -- `not_above` meets its contract: what is skipped passes, and else the counts are compared.
-use mathlib.Core.Path.{refl}
 use Rattle.checks.proofs.steps.not_above.Statement.{statement}
 use Rattle.checks.proofs.steps.not_above.Tie as tie
 

@@ -87,14 +87,5 @@ pub accept-spec : {M : Type 1} → statement M
 accept-spec =
     tie.close
     (tie.spec
-    slice-write-entry
-    slice-write-entry-2
-    (λ c κs. search needs)
-    store-record-requires
-    (λ c κs. search needs)
-    (λ c κs. search needs)
-    copy-down-requires
-    same-length
-    returns
-    same-length-2
-    returns-2)
+    slice-write-entry slice-write-entry-2 (λ c κs. search needs) store-record-requires (λ c κs. search needs)
+    (λ c κs. search needs) copy-down-requires same-length returns same-length-2 returns-2)

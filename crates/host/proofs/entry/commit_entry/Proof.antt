@@ -57,10 +57,4 @@ pub commit-entry-spec : {M : Type 1} → statement M
 commit-entry-spec =
     tie.close
     (tie.spec
-    slice-read-if1
-    returns
-    slice-read-if2
-    returns-2
-    (λ c κs. search needs)
-    (λ c. search needs)
-    returns-3)
+    slice-read-if1 returns slice-read-if2 returns-2 (λ c κs. search needs) (λ c. search needs) returns-3)

@@ -67,10 +67,5 @@ pub sound-entry-spec : {M : Type 1} → statement M
 sound-entry-spec =
     tie.close
     (tie.spec
-    (λ c κs. search needs)
-    shared-slice-read-if1
-    returns
-    sound-record-requires
-    returns-2
-    sound-record-requires-2
+    (λ c κs. search needs) shared-slice-read-if1 returns sound-record-requires returns-2 sound-record-requires-2
     returns-3)

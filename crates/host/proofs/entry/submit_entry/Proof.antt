@@ -49,10 +49,5 @@ pub submit-entry-spec : {M : Type 1} → statement M
 submit-entry-spec =
     tie.close
     (tie.spec
-    (λ c κs. search needs)
-    load-record-requires
-    load-record-requires-2
-    slice-write-entry
-    slice-write-entry-2
-    same-length
+    (λ c κs. search needs) load-record-requires load-record-requires-2 slice-write-entry slice-write-entry-2 same-length
     returns)

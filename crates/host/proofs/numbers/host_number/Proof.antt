@@ -34,9 +34,4 @@ pub host-number-spec : {M : Type 1} → statement M
 host-number-spec =
     tie.close
     (tie.spec
-    (λ c κs. search needs)
-    returns
-    entries-number-requires
-    returns-2
-    (λ c κs. search needs)
-    returns-3)
+    (λ c κs. search needs) returns entries-number-requires returns-2 (λ c κs. search needs) returns-3)

@@ -180,21 +180,6 @@ pub halt-number-spec : {M : Type 1} → statement M
 halt-number-spec =
     tie.close
     (tie.spec
-    (λ c κs. search needs)
-    shared-slice-read-slot
-    cast-slot
-    load-row-requires
-    returns
-    check-22-requires
-    returns-2
-    check-23-requires
-    returns-3
-    shared-slice-read-if4
-    returns-4
-    check-25-requires
-    returns-5
-    check-26-requires
-    returns-6
-    check-27-requires
-    returns-7
-    returns-8)
+    (λ c κs. search needs) shared-slice-read-slot cast-slot load-row-requires returns check-22-requires returns-2
+    check-23-requires returns-3 shared-slice-read-if4 returns-4 check-25-requires returns-5 check-26-requires returns-6
+    check-27-requires returns-7 returns-8)

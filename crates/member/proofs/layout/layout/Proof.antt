@@ -32,14 +32,5 @@ pub layout-spec : {M : Type 1} → statement M
 layout-spec =
     tie.close
     (tie.spec
-    (λ c. search needs)
-    (λ c. search needs)
-    (λ c. search needs)
-    (λ c. search needs)
-    mul-first
-    add-first
-    (λ c κs. search needs)
-    add-second
-    (λ c κs. search needs)
-    add-size
-    returns)
+    (λ c. search needs) (λ c. search needs) (λ c. search needs) (λ c. search needs) mul-first add-first
+    (λ c κs. search needs) add-second (λ c κs. search needs) add-size returns)

@@ -72,12 +72,5 @@ pub member-number-spec : {M : Type 1} → statement M
 member-number-spec =
     tie.close
     (tie.spec
-    (λ c κs. search needs)
-    returns
-    layout-requires
-    returns-2
-    sound-block-requires
-    returns-3
-    (λ c κs. search needs)
-    returns-4
-    returns-5)
+    (λ c κs. search needs) returns layout-requires returns-2 sound-block-requires returns-3 (λ c κs. search needs)
+    returns-4 returns-5)

@@ -55,10 +55,4 @@ pub waiting-number-spec : {M : Type 1} → statement M
 waiting-number-spec =
     tie.close
     (tie.spec
-    (λ c κs. search needs)
-    returns
-    shared-slice-read-if2
-    returns-2
-    shared-slice-read-if3
-    returns-3
-    returns-4)
+    (λ c κs. search needs) returns shared-slice-read-if2 returns-2 shared-slice-read-if3 returns-3 returns-4)

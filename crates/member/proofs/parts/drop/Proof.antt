@@ -67,13 +67,5 @@ pub drop-spec : {M : Type 1} → statement M
 drop-spec =
     tie.close
     (tie.spec
-    (λ c κs. search needs)
-    clear-requires
-    (λ c κs. search needs)
-    mul-clear
-    clear-requires-2
-    slice-write-block
-    slice-write-block-2
-    slice-write-block-3
-    same-length
-    returns)
+    (λ c κs. search needs) clear-requires (λ c κs. search needs) mul-clear clear-requires-2 slice-write-block
+    slice-write-block-2 slice-write-block-3 same-length returns)

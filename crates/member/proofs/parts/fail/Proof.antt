@@ -45,11 +45,5 @@ pub fail-spec : {M : Type 1} → statement M
 fail-spec =
     tie.close
     (tie.spec
-    (λ c κs. search needs)
-    (λ c κs. search needs)
-    mul-messages
-    clear-requires
-    slice-write-block
-    slice-write-block-2
-    (λ c. search needs)
-    returns)
+    (λ c κs. search needs) (λ c κs. search needs) mul-messages clear-requires slice-write-block slice-write-block-2
+    (λ c. search needs) returns)

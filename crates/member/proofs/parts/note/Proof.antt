@@ -56,9 +56,4 @@ pub note-spec : {M : Type 1} → statement M
 note-spec =
     tie.close
     (tie.spec
-    (λ c κs. search needs)
-    store-record-requires
-    store-record-requires-2
-    slice-write-block
-    same-length
-    returns)
+    (λ c κs. search needs) store-record-requires store-record-requires-2 slice-write-block same-length returns)

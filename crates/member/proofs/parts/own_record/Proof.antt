@@ -68,15 +68,5 @@ pub own-record-spec : {M : Type 1} → statement M
 own-record-spec =
     tie.close
     (tie.spec
-    (λ c κs. search needs)
-    shared-slice-read-slot
-    cast-count
-    add-count
-    (λ c. search needs)
-    mul-count
-    shared-slice-read-count
-    load-value-requires
-    cast-joined-matrix
-    joined-matrix-requires
-    shared-slice-read-t13
-    returns)
+    (λ c κs. search needs) shared-slice-read-slot cast-count add-count (λ c. search needs) mul-count
+    shared-slice-read-count load-value-requires cast-joined-matrix joined-matrix-requires shared-slice-read-t13 returns)

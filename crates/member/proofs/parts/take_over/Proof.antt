@@ -119,23 +119,6 @@ pub take-over-spec : {M : Type 1} → statement M
 take-over-spec =
     tie.close
     (tie.spec
-    (λ c κs. search needs)
-    slice-read-slot
-    cast-slot
-    slice-read-operation
-    add-block
-    (λ c. search needs)
-    mul-block
-    slice-read-block
-    add-block-2
-    sub-block-2
-    mul-block-2
-    slice-write-block
-    add-copy-down
-    mul-copy-down
-    copy-down-requires
-    same-length
-    returns
-    copy-down-requires-2
-    same-length-2
-    returns-2)
+    (λ c κs. search needs) slice-read-slot cast-slot slice-read-operation add-block (λ c. search needs) mul-block
+    slice-read-block add-block-2 sub-block-2 mul-block-2 slice-write-block add-copy-down mul-copy-down
+    copy-down-requires same-length returns copy-down-requires-2 same-length-2 returns-2)

@@ -87,18 +87,6 @@ pub begin-spec : {M : Type 1} → statement M
 begin-spec =
     tie.close
     (tie.spec
-    (λ c κs. search needs)
-    carried-requires
-    (λ c. search needs)
-    (λ c. search needs)
-    (λ c. search needs)
-    slice-read-block
-    add-block
-    (λ c. search needs)
-    slice-write-block
-    store-value-requires
-    slice-write-block-2
-    slice-write-block-3
-    slice-write-block-4
-    same-length
-    returns)
+    (λ c κs. search needs) carried-requires (λ c. search needs) (λ c. search needs) (λ c. search needs) slice-read-block
+    add-block (λ c. search needs) slice-write-block store-value-requires slice-write-block-2 slice-write-block-3
+    slice-write-block-4 same-length returns)

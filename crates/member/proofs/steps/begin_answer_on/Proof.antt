@@ -29,8 +29,5 @@ pub begin-answer-on-spec : {M : Type 1} → statement M
 begin-answer-on-spec =
     tie.close
     (tie.spec
-    (λ c κs. search needs)
-    shared-slice-read-begin-answer
-    shared-slice-read-begin-answer-2
-    (λ c κs. search needs)
+    (λ c κs. search needs) shared-slice-read-begin-answer shared-slice-read-begin-answer-2 (λ c κs. search needs)
     returns)

@@ -72,16 +72,6 @@ pub commit-of-spec : {M : Type 1} → statement M
 commit-of-spec =
     tie.close
     (tie.spec
-    (λ c κs. search needs)
-    shared-slice-read-slot
-    add-load-value
-    load-value-requires
-    add-load-matrix
-    load-matrix-requires
-    shared-slice-read-t9
-    cast-t10
-    add-t12
-    (λ c. search needs)
-    mul-t14
-    shared-slice-read-t16
+    (λ c κs. search needs) shared-slice-read-slot add-load-value load-value-requires add-load-matrix
+    load-matrix-requires shared-slice-read-t9 cast-t10 add-t12 (λ c. search needs) mul-t14 shared-slice-read-t16
     returns)

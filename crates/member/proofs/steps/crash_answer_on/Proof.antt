@@ -20,7 +20,4 @@ pub crash-answer-on-spec : {M : Type 1} → statement M
 crash-answer-on-spec =
     tie.close
     (tie.spec
-    shared-slice-read-crash-answer
-    shared-slice-read-crash-answer-2
-    (λ c κs. search needs)
-    returns)
+    shared-slice-read-crash-answer shared-slice-read-crash-answer-2 (λ c κs. search needs) returns)

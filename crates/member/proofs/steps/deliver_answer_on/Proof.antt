@@ -20,7 +20,4 @@ pub deliver-answer-on-spec : {M : Type 1} → statement M
 deliver-answer-on-spec =
     tie.close
     (tie.spec
-    shared-slice-read-deliver-answer
-    shared-slice-read-deliver-answer-2
-    (λ c κs. search needs)
-    returns)
+    shared-slice-read-deliver-answer shared-slice-read-deliver-answer-2 (λ c κs. search needs) returns)

@@ -58,7 +58,8 @@ returns c =
 
 add-load-value : tie.Need-add-load-value
 unfolding blockSize
-add-load-value c = let s = start (c .before .before .before) in record { fits = omega (arith, block-small (s .args .n) (s .pre .block .most)) }
+add-load-value c = let s = start (c .before .before .before) in record
+    { fits = omega (arith, block-small (s .args .n) (s .pre .block .most)) }
 
 load-value-requires : tie.Need-load-value-requires
 unfolding blockSize recordSize
@@ -83,18 +84,6 @@ pub finish-spec : {M : Type 1} → statement M
 finish-spec =
     tie.close
     (tie.spec
-    (λ c κs. search needs)
-    (λ c κs. search needs)
-    (λ c. search needs)
-    returns
-    (λ c κs. search needs)
-    add-load-value
-    load-value-requires
-    slice-read-operation
-    (λ c κs. search needs)
-    (λ c κs. search needs)
-    (λ c. search needs)
-    returns-2
-    (λ c κs. search needs)
-    (λ c. search needs)
-    returns-3)
+    (λ c κs. search needs) (λ c κs. search needs) (λ c. search needs) returns (λ c κs. search needs) add-load-value
+    load-value-requires slice-read-operation (λ c κs. search needs) (λ c κs. search needs) (λ c. search needs) returns-2
+    (λ c κs. search needs) (λ c. search needs) returns-3)

@@ -35,10 +35,5 @@ pub own-count-spec : {M : Type 1} → statement M
 own-count-spec =
     tie.close
     (tie.spec
-    (λ c κs. search needs)
-    returns
-    (λ c. search needs)
-    (λ c. search needs)
-    (λ c. search needs)
-    shared-slice-read-result
+    (λ c κs. search needs) returns (λ c. search needs) (λ c. search needs) (λ c. search needs) shared-slice-read-result
     returns-2)

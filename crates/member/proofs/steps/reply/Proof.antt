@@ -61,12 +61,5 @@ pub reply-spec : {M : Type 1} → statement M
 reply-spec =
     tie.close
     (tie.spec
-    (λ c κs. search needs)
-    load-matrix-requires
-    halt-number-requires
-    fail-requires
-    (λ c. search needs)
-    returns
-    pass-requires
-    (λ c. search needs)
-    returns-2)
+    (λ c κs. search needs) load-matrix-requires halt-number-requires fail-requires (λ c. search needs) returns
+    pass-requires (λ c. search needs) returns-2)

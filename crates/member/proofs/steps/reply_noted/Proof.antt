@@ -103,14 +103,5 @@ pub reply-noted-spec : {M : Type 1} → statement M
 reply-noted-spec =
     tie.close
     (tie.spec
-    (λ c κs. search needs)
-    load-matrix-requires
-    load-record-requires
-    load-record-requires-2
-    halt-number-requires
-    fail-requires
-    (λ c. search needs)
-    returns
-    pass-noted-requires
-    (λ c. search needs)
-    returns-2)
+    (λ c κs. search needs) load-matrix-requires load-record-requires load-record-requires-2 halt-number-requires
+    fail-requires (λ c. search needs) returns pass-noted-requires (λ c. search needs) returns-2)

@@ -138,19 +138,6 @@ pub sound-block-spec : {M : Type 1} → statement M
 sound-block-spec =
     tie.close
     (tie.spec
-    (λ c κs. search needs)
-    shared-slice-read-phase
-    shared-slice-read-slot
-    shared-slice-read-operation
-    shared-slice-read-sound-marks
-    shared-slice-read-sound-marks-2
-    (λ c κs. search needs)
-    returns
-    returns-2
-    returns-3
-    (λ c κs. search needs)
-    returns-4
-    sound-record-requires
-    returns-5
-    sound-record-requires-2
-    returns-6)
+    (λ c κs. search needs) shared-slice-read-phase shared-slice-read-slot shared-slice-read-operation
+    shared-slice-read-sound-marks shared-slice-read-sound-marks-2 (λ c κs. search needs) returns returns-2 returns-3
+    (λ c κs. search needs) returns-4 sound-record-requires returns-5 sound-record-requires-2 returns-6)

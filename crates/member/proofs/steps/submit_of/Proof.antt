@@ -39,10 +39,4 @@ pub submit-of-spec : {M : Type 1} → statement M
 submit-of-spec =
     tie.close
     (tie.spec
-    shared-slice-read-slot
-    cast-count
-    add-count
-    (λ c. search needs)
-    mul-count
-    shared-slice-read-count
-    returns)
+    shared-slice-read-slot cast-count add-count (λ c. search needs) mul-count shared-slice-read-count returns)

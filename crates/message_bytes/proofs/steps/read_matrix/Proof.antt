@@ -67,16 +67,7 @@ pub read-matrix-spec : {M : Type 1} → statement M
 read-matrix-spec =
     tie.close
     (tie.spec
-    Inv-loop
-    μ-loop
-    loop-holds
+    Inv-loop μ-loop loop-holds (λ c. record { fits = omega (arith, fits c .within, fits c .small) })
     (λ c. record { fits = omega (arith, fits c .within, fits c .small) })
-    (λ c. record { fits = omega (arith, fits c .within, fits c .small) })
-    (λ c. record { fits = omega (arith, fits c .within) })
-    (λ c κs. (search needs, omega (arith, fits c .within)))
-    (λ c. search needs)
-    (λ c. search needs)
-    (λ c. search needs)
-    (λ c. search needs)
-    loop-again
-    returns)
+    (λ c. record { fits = omega (arith, fits c .within) }) (λ c κs. (search needs, omega (arith, fits c .within)))
+    (λ c. search needs) (λ c. search needs) (λ c. search needs) (λ c. search needs) loop-again returns)

@@ -15,8 +15,5 @@ unfolding recordLength
 second-at-spec =
     tie.close
     (tie.spec
-    (λ c. search needs)
-    (λ c. record { fits = omega (arith, small c) })
-    (λ c. record { fits = omega (arith, small c) })
-    (λ c. record { fits = omega (arith, small c) })
-    (λ c. omega arith))
+    (λ c. search needs) (λ c. record { fits = omega (arith, small c) }) (λ c. record { fits = omega (arith, small c) })
+    (λ c. record { fits = omega (arith, small c) }) (λ c. omega arith))

@@ -56,17 +56,8 @@ pub write-matrix-spec : {M : Type 1} → statement M
 write-matrix-spec =
     tie.close
     (tie.spec
-    Inv-loop
-    μ-loop
-    loop-holds
+    Inv-loop μ-loop loop-holds (λ c. record { fits = omega (arith, fits (c .before) .within, fits (c .before) .small) })
     (λ c. record { fits = omega (arith, fits (c .before) .within, fits (c .before) .small) })
-    (λ c. record { fits = omega (arith, fits (c .before) .within, fits (c .before) .small) })
-    (λ c. record { fits = omega (arith, fits (c .before) .within) })
-    (λ c. search needs)
-    (λ c. search needs)
-    (λ c κs. (search needs, omega (arith, fits (c .before .before) .within)))
-    (λ c. search needs)
-    (λ c. search needs)
-    loop-again
-    (λ c. search needs)
-    returns)
+    (λ c. record { fits = omega (arith, fits (c .before) .within) }) (λ c. search needs) (λ c. search needs)
+    (λ c κs. (search needs, omega (arith, fits (c .before .before) .within))) (λ c. search needs) (λ c. search needs)
+    loop-again (λ c. search needs) returns)

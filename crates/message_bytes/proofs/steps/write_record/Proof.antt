@@ -45,19 +45,8 @@ unfolding recordLength
 write-record-spec =
     tie.close
     (tie.spec
-    (λ c. search needs)
-    (λ c. omega arith)
-    (λ c. search needs)
-    (λ c. search needs)
-    (λ c. simp length-set (omega arith))
-    (λ c. search needs)
-    (λ c. search needs)
-    (λ c. simp length-set (omega arith))
-    (λ c. search needs)
-    (λ c κs. simp length-set (omega arith))
-    (λ c. search needs)
-    (λ c κs. omega (arith, length-numbered (numbered (c .before))))
-    (λ c. search needs)
-    (λ c κs. (search needs, omega (arith, length-valued (valued (c .before)))))
-    same-length
-    returns)
+    (λ c. search needs) (λ c. omega arith) (λ c. search needs) (λ c. search needs) (λ c. simp length-set (omega arith))
+    (λ c. search needs) (λ c. search needs) (λ c. simp length-set (omega arith)) (λ c. search needs)
+    (λ c κs. simp length-set (omega arith)) (λ c. search needs)
+    (λ c κs. omega (arith, length-numbered (numbered (c .before)))) (λ c. search needs)
+    (λ c κs. (search needs, omega (arith, length-valued (valued (c .before))))) same-length returns)

@@ -67,14 +67,5 @@ pub message-fits-spec : {M : Type 1} → statement M
 message-fits-spec =
     tie.close
     (tie.spec
-    (λ c κs. search needs)
-    returns
-    (λ c κs. search needs)
-    returns-2
-    (λ c κs. search needs)
-    returns-3
-    returns-4
-    (λ c κs. search needs)
-    returns-5
-    (λ c κs. search needs)
-    returns-6)
+    (λ c κs. search needs) returns (λ c κs. search needs) returns-2 (λ c κs. search needs) returns-3 returns-4
+    (λ c κs. search needs) returns-5 (λ c κs. search needs) returns-6)

@@ -85,11 +85,5 @@ pub writer-number-spec : {M : Type 1} → statement M
 writer-number-spec =
     tie.close
     (tie.spec
-    (λ c κs. search needs)
-    returns
-    (λ c κs. search needs)
-    returns-2
-    (λ c κs. length-asked (known c) (numbered (c .before .before)))
-    add-size
-    returns-3
-    returns-4)
+    (λ c κs. search needs) returns (λ c κs. search needs) returns-2
+    (λ c κs. length-asked (known c) (numbered (c .before .before))) add-size returns-3 returns-4)

@@ -94,15 +94,7 @@ unfolding lengthOf
 read-message-spec =
     tie.close
     (tie.spec
-    (λ c. omega (arith, long (c .before .before)))
-    (λ c κs. search needs)
-    (λ c κs. omega (arith, length-of-kind (c .before) 1 (c .if1 .taken)))
-    returns
-    read-reply-requires
-    returns-2
-    read-commit-requires
-    returns-3
-    (λ c κs. search needs)
-    (λ c. omega (arith, long (start (wide-of (c .before .before)))))
-    (λ c κs. search needs)
-    returns-4)
+    (λ c. omega (arith, long (c .before .before))) (λ c κs. search needs)
+    (λ c κs. omega (arith, length-of-kind (c .before) 1 (c .if1 .taken))) returns read-reply-requires returns-2
+    read-commit-requires returns-3 (λ c κs. search needs)
+    (λ c. omega (arith, long (start (wide-of (c .before .before))))) (λ c κs. search needs) returns-4)

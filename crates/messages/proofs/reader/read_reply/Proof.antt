@@ -23,7 +23,5 @@ pub read-reply-spec : {M : Type 1} → statement M
 read-reply-spec =
     tie.close
     (tie.spec
-    (λ c κs. (omega arith, omega arith))
-    (λ c κs. search needs)
-    (λ c κs. (omega arith, omega (arith, c .second-at .ensures)))
-    returns)
+    (λ c κs. (omega arith, omega arith)) (λ c κs. search needs)
+    (λ c κs. (omega arith, omega (arith, c .second-at .ensures))) returns)

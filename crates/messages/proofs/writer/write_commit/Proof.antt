@@ -46,9 +46,4 @@ pub write-commit-spec : {M : Type 1} → statement M
 write-commit-spec =
     tie.close
     (tie.spec
-    (λ c κs. search needs)
-    (λ c. search needs)
-    write-heading-requires
-    write-record-requires
-    same-length
-    returns)
+    (λ c κs. search needs) (λ c. search needs) write-heading-requires write-record-requires same-length returns)

@@ -124,16 +124,8 @@ pub write-message-spec : {M : Type 1} → statement M
 write-message-spec =
     tie.close
     (tie.spec
-    write-submit-requires
-    (λ c. c .before .before .write-submit .kept .0)
-    returns
-    (λ c. record { fits = omega (arith, result-high (c .before .before)) })
-    write-heading-requires
-    (λ c. c .before .before .write-heading .kept .0)
-    returns-2
-    write-commit-requires
-    (λ c. c .before .before .write-commit .kept .0)
-    returns-3
-    write-reply-requires
-    (λ c. c .before .before .write-reply .kept .0)
-    returns-4)
+    write-submit-requires (λ c. c .before .before .write-submit .kept .0) returns
+    (λ c. record { fits = omega (arith, result-high (c .before .before)) }) write-heading-requires
+    (λ c. c .before .before .write-heading .kept .0) returns-2 write-commit-requires
+    (λ c. c .before .before .write-commit .kept .0) returns-3 write-reply-requires
+    (λ c. c .before .before .write-reply .kept .0) returns-4)

@@ -76,11 +76,5 @@ pub write-reply-spec : {M : Type 1} → statement M
 write-reply-spec =
     tie.close
     (tie.spec
-    (λ c κs. search needs)
-    (λ c. search needs)
-    write-heading-requires
-    write-record-requires
-    (λ c κs. search needs)
-    write-record-requires-2
-    same-length
-    returns)
+    (λ c κs. search needs) (λ c. search needs) write-heading-requires write-record-requires (λ c κs. search needs)
+    write-record-requires-2 same-length returns)

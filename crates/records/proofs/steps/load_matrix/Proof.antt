@@ -69,15 +69,5 @@ pub load-matrix-spec : {M : Type 1} → statement M
 load-matrix-spec =
     tie.close
     (tie.spec
-    Inv-loop
-    μ-loop
-    loop-holds
-    mul-load-row
-    add-load-row
-    load-row-requires
-    (λ c. search needs)
-    (λ c. search needs)
-    (λ c. search needs)
-    (λ c. search needs)
-    loop-again
-    returns)
+    Inv-loop μ-loop loop-holds mul-load-row add-load-row load-row-requires (λ c. search needs) (λ c. search needs)
+    (λ c. search needs) (λ c. search needs) loop-again returns)

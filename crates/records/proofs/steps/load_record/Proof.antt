@@ -75,19 +75,6 @@ pub load-record-spec : {M : Type 1} → statement M
 load-record-spec =
     tie.close
     (tie.spec
-    add-load-value
-    load-value-requires
-    add-load-matrix
-    load-matrix-requires
-    (λ c. search needs)
-    shared-slice-read-t8
-    add-t9
-    (λ c. search needs)
-    shared-slice-read-t12
-    add-t13
-    (λ c. search needs)
-    shared-slice-read-t16
-    add-t17
-    (λ c. search needs)
-    shared-slice-read-t20
-    returns)
+    add-load-value load-value-requires add-load-matrix load-matrix-requires (λ c. search needs) shared-slice-read-t8
+    add-t9 (λ c. search needs) shared-slice-read-t12 add-t13 (λ c. search needs) shared-slice-read-t16 add-t17
+    (λ c. search needs) shared-slice-read-t20 returns)

@@ -71,16 +71,5 @@ pub store-matrix-spec : {M : Type 1} → statement M
 store-matrix-spec =
     tie.close
     (tie.spec
-    Inv-loop
-    μ-loop
-    loop-holds
-    mul-store-row
-    add-store-row
-    (λ c. search needs)
-    (λ c. search needs)
-    store-row-requires
-    (λ c. search needs)
-    (λ c. search needs)
-    loop-again
-    (λ c. search needs)
-    returns)
+    Inv-loop μ-loop loop-holds mul-store-row add-store-row (λ c. search needs) (λ c. search needs) store-row-requires
+    (λ c. search needs) (λ c. search needs) loop-again (λ c. search needs) returns)

@@ -81,20 +81,6 @@ pub store-record-spec : {M : Type 1} → statement M
 store-record-spec =
     tie.close
     (tie.spec
-    (λ c. search needs)
-    slice-write-t
-    add-t
-    (λ c. search needs)
-    slice-write-t-2
-    add-t-2
-    (λ c. search needs)
-    slice-write-t-3
-    add-t-3
-    (λ c. search needs)
-    slice-write-t-4
-    add-store-value
-    store-value-requires
-    add-store-matrix
-    store-matrix-requires
-    same-length
-    returns)
+    (λ c. search needs) slice-write-t add-t (λ c. search needs) slice-write-t-2 add-t-2 (λ c. search needs)
+    slice-write-t-3 add-t-3 (λ c. search needs) slice-write-t-4 add-store-value store-value-requires add-store-matrix
+    store-matrix-requires same-length returns)

@@ -1,13 +1,10 @@
 -- `Row::below` meets its contract: each entry passed is not above its fellow. Assumes nothing.
 use borrow.Author.Needs.{needs}
-use Prim.Native.Nat.{ℕ, _+_, _-_, _≤_, _<_, min}
-use mathlib.Core.Path.{_≡_, refl, sym, ap, _∙_}
-use mathlib.Core.Bool.{Bool, true, false}
+use Prim.Native.Nat.{_-_, _≤_, min}
+use mathlib.Core.Path.{_≡_, sym}
+use mathlib.Core.Bool.{true}
 use native.Mathlib.Omega.{arith}
-use lib.Dec.{leb}
-use borrow.Author.Tests.{le-leb, lt-leb}
-use Rattle.lists.specs.Functions.{each}
-use Rattle.lists.proofs.Functions.{each-none, each-more, each-fails}
+use Rattle.lists.proofs.Functions.{each-none}
 use Rattle.model.specs.Rows.{below}
 use Rattle.rows.specs.Meaning.{rowIn}
 use Rattle.rows.proofs.Laws.{below-more, below-fails}
@@ -59,16 +56,5 @@ pub below-spec : {M : Type 1} → statement M
 below-spec =
     tie.close
     (tie.spec
-    Inv-loop
-    μ-loop
-    (λ c κs. search needs)
-    loop-holds
-    (λ c. search needs)
-    (λ c. search needs)
-    (λ c. search needs)
-    (λ c. search needs)
-    returns
-    (λ c. search needs)
-    (λ c. search needs)
-    loop-again
-    returns-2)
+    Inv-loop μ-loop (λ c κs. search needs) loop-holds (λ c. search needs) (λ c. search needs) (λ c. search needs)
+    (λ c. search needs) returns (λ c. search needs) (λ c. search needs) loop-again returns-2)

@@ -1,6 +1,6 @@
 -- `Row::comparable` meets its contract: the first comparison holds, or the second decides.
 use borrow.Author.Needs.{needs}
-use mathlib.Core.Path.{_≡_, refl, sym, _∙_}
+use mathlib.Core.Path.{sym, _∙_}
 use Rattle.model.specs.Rows.{comparable}
 use Rattle.rows.proofs.Row.comparable.Statement.{statement}
 use Rattle.rows.proofs.Row.comparable.Tie as tie

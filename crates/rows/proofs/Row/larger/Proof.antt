@@ -1,6 +1,6 @@
 -- `Row::larger` meets its contract: by whether this row is below the other.
 use borrow.Author.Needs.{needs}
-use mathlib.Core.Path.{_≡_, refl, sym, _∙_}
+use mathlib.Core.Path.{sym, _∙_}
 use Rattle.model.specs.Rows.{larger}
 use Rattle.rows.proofs.Row.larger.Statement.{statement}
 use Rattle.rows.proofs.Row.larger.Tie as tie

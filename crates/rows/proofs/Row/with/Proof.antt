@@ -1,11 +1,11 @@
 -- `Row::with` meets its contract: one count is replaced at its place.
 use borrow.Author.Needs.{needs}
-use Prim.Native.Nat.{ℕ, _+_, _-_}
+use Prim.Native.Nat.{_+_, _-_}
 use mathlib.Core.Path.{_≡_, refl, sym, ap, _∙_}
 use native.Mathlib.Omega.{arith}
 use lib.ListN.{length}
 use Rattle.lists.proofs.Functions.{inside-zero, inside-above}
-use Rattle.lists.specs.Functions.{put, inside}
+use Rattle.lists.specs.Functions.{put}
 use Rattle.model.proofs.Rows.{withCount-in, withCount-out}
 use Rattle.rows.specs.Meaning.{rowIn}
 use Rattle.rows.proofs.Laws.{count-set}

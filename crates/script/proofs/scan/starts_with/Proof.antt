@@ -30,7 +30,8 @@ word c = c .before .before .args .word .now
 
 next : (c : tie.In-loop Inv-loop μ-loop) → let i = c .before .loop .i in
     startsWith (word (c .before)) (text (c .before))
-    ≡ (eqb (words (word (c .before)) i) (words (text (c .before)) i) && startsWith (drop (i + 1) (word (c .before))) (drop (i + 1) (text (c .before))))
+    ≡ (eqb (words (word (c .before)) i) (words (text (c .before)) i)
+    && startsWith (drop (i + 1) (word (c .before))) (drop (i + 1) (text (c .before))))
 next c =
     let l = c .before .loop in
     sym (l .inv .1) ∙ starts-step (word (c .before)) (text (c .before)) (l .i) (omega arith) (omega arith)
@@ -66,14 +67,5 @@ pub starts-with-spec : {M : Type 1} → statement M
 starts-with-spec =
     tie.close
     (tie.spec
-    Inv-loop
-    μ-loop
-    returns
-    loop-holds
-    (λ c. search needs)
-    (λ c. search needs)
-    returns-2
-    (λ c. search needs)
-    (λ c. search needs)
-    loop-again
-    returns-3)
+    Inv-loop μ-loop returns loop-holds (λ c. search needs) (λ c. search needs) returns-2 (λ c. search needs)
+    (λ c. search needs) loop-again returns-3)

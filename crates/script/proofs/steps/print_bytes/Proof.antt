@@ -25,7 +25,10 @@ loop-again c =
     let a = c .before .before .before .args in
     let l = c .before .before .loop in (
       search needs,
-      (simp length-set (omega arith), words-more (l .out) (a .at) (l .i) (a .at + l .i) _ (words (a .text .now)) (words (a .out .now)) (l .inv .1 .1) refl (omega arith) refl),
+      (
+        simp length-set (omega arith),
+        words-more (l .out) (a .at) (l .i) (a .at + l .i) _ (words (a .text .now)) (words (a .out .now)) (l .inv .1 .1) refl (omega arith) refl,
+      ),
     )
 
 returns : tie.Need-returns Inv-loop μ-loop
@@ -41,15 +44,5 @@ pub print-bytes-spec : {M : Type 1} → statement M
 print-bytes-spec =
     tie.close
     (tie.spec
-    Inv-loop
-    μ-loop
-    loop-holds
-    (λ c. search needs)
-    (λ c. search needs)
-    (λ c. search needs)
-    (λ c. search needs)
-    (λ c. search needs)
-    loop-again
-    (λ c. search needs)
-    (λ c. search needs)
-    returns)
+    Inv-loop μ-loop loop-holds (λ c. search needs) (λ c. search needs) (λ c. search needs) (λ c. search needs)
+    (λ c. search needs) loop-again (λ c. search needs) (λ c. search needs) returns)

@@ -72,14 +72,5 @@ pub print-field-spec : {M : Type 1} → statement M
 print-field-spec =
     tie.close
     (tie.spec
-    slice-write-out
-    (λ c. search needs)
-    slice-write-out-2
-    (λ c. search needs)
-    (λ c. search needs)
-    returns
-    print-number-requires
-    slice-write-out-3
-    add-result-2
-    (λ c. search needs)
-    returns-2)
+    slice-write-out (λ c. search needs) slice-write-out-2 (λ c. search needs) (λ c. search needs) returns
+    print-number-requires slice-write-out-3 add-result-2 (λ c. search needs) returns-2)

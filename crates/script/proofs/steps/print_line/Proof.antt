@@ -89,9 +89,5 @@ pub print-line-spec : {M : Type 1} → statement M
 print-line-spec =
     tie.close
     (tie.spec
-    print-field-requires
-    print-field-requires-2
-    print-field-requires-3
-    print-field-requires-4
-    (λ c. search needs)
+    print-field-requires print-field-requires-2 print-field-requires-3 print-field-requires-4 (λ c. search needs)
     returns)

@@ -1,6 +1,6 @@
 -- `print_number` meets its contract: with the digits that are left printed in front, all are. Assumes nothing.
 use borrow.Author.Needs.{needs}
-use Prim.Native.Nat.{_+_, _-_, _/_, _%_, _≤_, _<_}
+use Prim.Native.Nat.{_+_, _-_, _/_, _%_, _≤_}
 use mathlib.Core.Path.{_≡_, refl, sym, ap, _∙_}
 use native.Mathlib.Omega.{arith}
 use lib.ListN.{length, set, length-set}
@@ -101,21 +101,6 @@ pub print-number-spec : {M : Type 1} → statement M
 print-number-spec =
     tie.close
     (tie.spec
-    Inv-loop
-    μ-loop
-    (λ c κs. search needs)
-    loop-holds
-    (λ c κs. search needs)
-    add-out
-    sub-out
-    slice-write-out
-    sub-left
-    (λ c. search needs)
-    loop-again
-    (λ c κs. search needs)
-    add-out-2
-    sub-out-2
-    slice-write-out-2
-    (λ c. search needs)
-    (λ c. search needs)
-    returns)
+    Inv-loop μ-loop (λ c κs. search needs) loop-holds (λ c κs. search needs) add-out sub-out slice-write-out sub-left
+    (λ c. search needs) loop-again (λ c κs. search needs) add-out-2 sub-out-2 slice-write-out-2 (λ c. search needs)
+    (λ c. search needs) returns)

@@ -16,7 +16,4 @@ pub print-refused-spec : {M : Type 1} → statement M
 print-refused-spec =
     tie.close
     (tie.spec
-    (λ c. search needs)
-    print-worded-requires
-    (λ c. search needs)
-    returns)
+    (λ c. search needs) print-worded-requires (λ c. search needs) returns)

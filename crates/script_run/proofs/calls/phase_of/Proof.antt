@@ -38,8 +38,4 @@ pub phase-of-spec : {M : Type 1} → statement M
 phase-of-spec =
     tie.close
     (tie.spec
-    shared-slice-read-n
-    (λ c κs. search needs)
-    phase-requires
-    (λ c. search needs)
-    returns-2)
+    shared-slice-read-n (λ c κs. search needs) phase-requires (λ c. search needs) returns-2)

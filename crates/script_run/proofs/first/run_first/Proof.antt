@@ -4,7 +4,7 @@ use borrow.Author.Needs.{needs}
 use Prim.Native.Nat.{ℕ}
 use mathlib.Core.Path.{_≡_, refl, sym, ap, _∙_}
 use mathlib.Core.Bool.{true, false}
-use mathlib.Core.List.{List, [], _∷_}
+use mathlib.Core.List.{List}
 use mathlib.Core.Option.{Option, none, some}
 use native.Mathlib.Omega.{arith}
 use borrow.Author.Tests.{not-true, not-false}
@@ -127,18 +127,6 @@ pub run-first-spec : {M : Type 1} → statement M
 run-first-spec =
     tie.close
     (tie.spec
-    slice-aggregate-parse-members
-    (λ c κs. search needs)
-    (λ c κs. search needs)
-    returns
-    (λ c κs. search needs)
-    (λ c κs. search needs)
-    returns-2
-    (λ c. search needs)
-    table-size-requires
-    (λ c. search needs)
-    slice-aggregate-open
-    (λ c κs. search needs)
-    (λ c κs. search needs)
-    (λ c. search needs)
-    returns-3)
+    slice-aggregate-parse-members (λ c κs. search needs) (λ c κs. search needs) returns (λ c κs. search needs)
+    (λ c κs. search needs) returns-2 (λ c. search needs) table-size-requires (λ c. search needs) slice-aggregate-open
+    (λ c κs. search needs) (λ c κs. search needs) (λ c. search needs) returns-3)

@@ -77,13 +77,5 @@ pub end-line-spec : {M : Type 1} → statement M
 end-line-spec =
     tie.close
     (tie.spec
-    (λ c κs. search needs)
-    (λ c. search needs)
-    returns
-    (λ c. search needs)
-    slice-aggregate-run-line
-    slice-aggregate-run-line-2
-    run-line-requires
-    (λ c. search needs)
-    (λ c. search needs)
-    returns-2)
+    (λ c κs. search needs) (λ c. search needs) returns (λ c. search needs) slice-aggregate-run-line
+    slice-aggregate-run-line-2 run-line-requires (λ c. search needs) (λ c. search needs) returns-2)

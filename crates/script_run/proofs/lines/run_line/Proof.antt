@@ -6,8 +6,7 @@ use mathlib.Core.Path.{_≡_, refl, sym, ap, _∙_}
 use native.Mathlib.Omega.{arith}
 use Rattle.model.specs.Kinds.{concur}
 use Rattle.model.specs.Runs.{Call}
-use Rattle.model.specs.Script.{stepLine}
-use Rattle.model.specs.TableCalls.{tableAfter, tableSeen}
+use Rattle.model.specs.TableCalls.{tableAfter}
 use Rattle.script_run.specs.Meaning.{callBy}
 use Rattle.script_run.proofs.Held.{whole-after, step-malformed, step-made, call-shown}
 use Rattle.script_run.proofs.lines.run_line.Statement.{statement}
@@ -61,10 +60,5 @@ pub run-line-spec : {M : Type 1} → statement M
 run-line-spec =
     tie.close
     (tie.spec
-    (λ c κs. search needs)
-    (λ c κs. search needs)
-    returns
-    (λ c κs. search needs)
-    phase-of-requires
-    (λ c. search needs)
+    (λ c κs. search needs) (λ c κs. search needs) returns (λ c κs. search needs) phase-of-requires (λ c. search needs)
     returns-2)

@@ -5,7 +5,7 @@ use mathlib.Core.Path.{_≡_, refl, _∙_}
 use native.Mathlib.Omega.{arith}
 use lib.ListN.{length}
 use Rattle.script_run.specs.Feeding.{fed, printedEvents}
-use Rattle.script_run.specs.Meaning.{stateOf, Ready, FedInto}
+use Rattle.script_run.specs.Meaning.{Ready, FedInto}
 use Rattle.script_run.proofs.States.{rest-long, fed-into-more}
 use Rattle.script_run.proofs.steps.feed.Statement.{statement}
 use Rattle.script_run.proofs.steps.feed.Tie as tie
@@ -94,23 +94,6 @@ pub feed-spec : {M : Type 1} → statement M
 feed-spec =
     tie.close
     (tie.spec
-    Inv-loop
-    μ-loop
-    loop-holds
-    (λ c. search needs)
-    (λ c. search needs)
-    (λ c. search needs)
-    (λ c. search needs)
-    returns
-    (λ c. search needs)
-    (λ c. search needs)
-    (λ c. search needs)
-    take-line-requires
-    add-taken
-    print-event-requires
-    loop-less
-    loop-again
-    (λ c. search needs)
-    (λ c. search needs)
-    (λ c. search needs)
-    returns-2)
+    Inv-loop μ-loop loop-holds (λ c. search needs) (λ c. search needs) (λ c. search needs) (λ c. search needs) returns
+    (λ c. search needs) (λ c. search needs) (λ c. search needs) take-line-requires add-taken print-event-requires
+    loop-less loop-again (λ c. search needs) (λ c. search needs) (λ c. search needs) returns-2)

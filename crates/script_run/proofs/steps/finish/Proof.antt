@@ -1,8 +1,6 @@
 -- `finish` meets its contract: what is printed of the last event stands at the front of the output.
 use borrow.Author.Needs.{needs}
-use Prim.Native.Nat.{_≤_}
 use native.Mathlib.Omega.{arith}
-use lib.ListN.{length}
 use Rattle.model.specs.Kinds.{concur}
 use Rattle.script_run.specs.Feeding.{lastEvents}
 use Rattle.script_run.specs.Meaning.{stateOf}
@@ -22,8 +20,4 @@ pub finish-spec : {M : Type 1} → statement M
 finish-spec =
     tie.close
     (tie.spec
-    (λ c κs. search needs)
-    (λ c κs. search needs)
-    (λ c. search needs)
-    (λ c. search needs)
-    returns)
+    (λ c κs. search needs) (λ c κs. search needs) (λ c. search needs) (λ c. search needs) returns)

@@ -1,15 +1,14 @@
 -- `last_line` meets its contract: the script is over, or no line has begun, or the one that has is ended.
 use borrow.Author.Needs.{needs}
-use mathlib.Core.Path.{_≡_, sym, ap, _∙_}
-use mathlib.Core.Bool.{Bool, true, false, cond}
-use mathlib.Core.List.{List, []}
+use mathlib.Core.Path.{_≡_, sym, _∙_}
+use mathlib.Core.Bool.{cond}
+use mathlib.Core.List.{[]}
 use native.Mathlib.Omega.{arith}
-use lib.ListN.{length}
 use borrow.Author.Tests.{not-true, not-false, ltb-false}
 use Prim.Native.Nat.{_≤_}
 use Rattle.model.specs.Kinds.{concur}
 use Rattle.model.specs.Script.{mostSteps}
-use Rattle.script_run.specs.Feeding.{Event, State, lineRun, lastEvents}
+use Rattle.script_run.specs.Feeding.{State, lineRun, lastEvents}
 use Rattle.script_run.specs.Meaning.{stateOf}
 use Rattle.script_run.proofs.Streams.{over-last}
 use Rattle.script_run.proofs.States.{last-begun}
@@ -71,12 +70,5 @@ pub last-line-spec : {M : Type 1} → statement M
 last-line-spec =
     tie.close
     (tie.spec
-    (λ c κs. search needs)
-    (λ c κs. search needs)
-    returns
-    (λ c κs. search needs)
-    (λ c κs. search needs)
-    returns-2
-    end-line-requires
-    (λ c. search needs)
-    returns-3)
+    (λ c κs. search needs) (λ c κs. search needs) returns (λ c κs. search needs) (λ c κs. search needs) returns-2
+    end-line-requires (λ c. search needs) returns-3)

@@ -1,11 +1,9 @@
 -- `print_event` meets its contract: by the event's kind.
 use borrow.Author.Needs.{needs}
 use Prim.Native.Nat.{_≤_, _+_}
-use mathlib.Core.Path.{_≡_, sym}
 use native.Mathlib.Omega.{arith}
 use lib.ListN.{length}
 use Rattle.model.specs.Script.{boardLine, refusedLine}
-use Rattle.script.specs.Meaning.{longestPrinted}
 use Rattle.script.proofs.Printing.{board-short, refused-short}
 use Rattle.script_run.proofs.Held.{nothing-shown, refused-shown, opened-shown, stepped-shown, wrote, wrote-nothing}
 use Rattle.script_run.proofs.steps.print_event.Statement.{statement}
@@ -60,13 +58,5 @@ pub print-event-spec : {M : Type 1} → statement M
 print-event-spec =
     tie.close
     (tie.spec
-    returns
-    print-refused-requires
-    (λ c. search needs)
-    returns-2
-    print-board-requires
-    (λ c. search needs)
-    returns-3
-    (λ c κs. search needs)
-    (λ c. search needs)
-    returns-4)
+    returns print-refused-requires (λ c. search needs) returns-2 print-board-requires (λ c. search needs) returns-3
+    (λ c κs. search needs) (λ c. search needs) returns-4)

@@ -1,7 +1,7 @@
 -- `print_step` meets its contract: the line printed of the done step's parts is what a step that it holds prints.
 use borrow.Author.Needs.{needs}
 use Prim.Native.Nat.{_≤_}
-use mathlib.Core.Path.{_≡_, sym, ap, _∙_}
+use mathlib.Core.Path.{_≡_, sym, _∙_}
 use mathlib.Core.List.{List}
 use native.Mathlib.Omega.{arith}
 use lib.ListN.{length}
@@ -9,7 +9,6 @@ use Prim.Native.Nat.{ℕ}
 use Rattle.script.specs.Meaning.{longestPrinted, given}
 use Rattle.model.specs.Script.{printedLine, printedStep}
 use Rattle.script.proofs.Printing.{line-short}
-use Rattle.script_run.specs.Meaning.{Wrote}
 use Rattle.script_run.proofs.Held.{step-shown, wrote}
 use Rattle.script_run.proofs.steps.print_step.Statement.{statement}
 use Rattle.script_run.proofs.steps.print_step.Tie as tie
@@ -54,8 +53,4 @@ pub print-step-spec : {M : Type 1} → statement M
 print-step-spec =
     tie.close
     (tie.spec
-    (λ c κs. search needs)
-    (λ c κs. search needs)
-    print-line-requires
-    (λ c. search needs)
-    returns)
+    (λ c κs. search needs) (λ c κs. search needs) print-line-requires (λ c. search needs) returns)

@@ -1,7 +1,7 @@
 -- `take_line` meets its contract: the script is over; or the bytes taken so far are kept, none of which ends the line, and the next one
 -- ends it.
 use borrow.Author.Needs.{needs}
-use Prim.Native.Nat.{ℕ, _+_, _-_, _≤_, _<_}
+use Prim.Native.Nat.{ℕ, _-_, _≤_}
 use mathlib.Core.Path.{_≡_, refl, sym, ap, _∙_}
 use mathlib.Core.List.{List}
 use native.Mathlib.Omega.{arith}
@@ -11,7 +11,7 @@ use lib.Seq.{take-all}
 use Rattle.lists.specs.Parts.{words}
 use Rattle.model.specs.Kinds.{concur}
 use Rattle.model.specs.Script.{mostSteps}
-use Rattle.script_run.specs.Feeding.{State, silent, fed}
+use Rattle.script_run.specs.Feeding.{silent, fed}
 use Rattle.script_run.specs.Meaning.{stateOf, Ready}
 use Rattle.script_run.specs.declared.Progress.{Progress}
 use Rattle.script_run.proofs.Streams.{over-fed}
@@ -134,22 +134,6 @@ pub take-line-spec : {M : Type 1} → statement M
 take-line-spec =
     tie.close
     (tie.spec
-    Inv-loop
-    μ-loop
-    (λ c κs. search needs)
-    (λ c κs. search needs)
-    returns
-    loop-holds
-    (λ c. search needs)
-    (λ c. search needs)
-    end-line-requires
-    (λ c. search needs)
-    (λ c. search needs)
-    returns-2
-    keep-byte-requires
-    loop-less
-    loop-again
-    (λ c κs. search needs)
-    (λ c. search needs)
-    (λ c. search needs)
-    returns-3)
+    Inv-loop μ-loop (λ c κs. search needs) (λ c κs. search needs) returns loop-holds (λ c. search needs)
+    (λ c. search needs) end-line-requires (λ c. search needs) (λ c. search needs) returns-2 keep-byte-requires loop-less
+    loop-again (λ c κs. search needs) (λ c. search needs) (λ c. search needs) returns-3)

@@ -10,7 +10,8 @@ use Rattle.lists.specs.Parts.{words}
 use Rattle.lists.proofs.Functions.{inside-high}
 use Rattle.laws.proofs.Tests.{allowed, refused}
 use Rattle.tables.specs.Needs.{Table}
-use Rattle.tables.proofs.Numbers.{blocks-refused, empty-refused, host-refused, length-refused, none-refused, size-refused, soundAt, whole-table}
+use Rattle.tables.proofs.Numbers.{blocks-refused, empty-refused, host-refused, length-refused, none-refused, size-refused, soundAt}
+use Rattle.tables.proofs.Numbers.{whole-table}
 use Rattle.tables.proofs.check.table_number.Statement.{statement}
 use Rattle.tables.proofs.check.table_number.Tie as tie
 
@@ -67,15 +68,5 @@ pub table-number-spec : {M : Type 1} → statement M
 table-number-spec =
     tie.close
     (tie.spec
-    returns
-    (λ c. search needs)
-    (λ c κs. search needs)
-    returns-2
-    cast-table-size
-    table-size-requires
-    returns-3
-    (λ c κs. whole c)
-    returns-4
-    sound-host-requires
-    returns-5
-    returns-6)
+    returns (λ c. search needs) (λ c κs. search needs) returns-2 cast-table-size table-size-requires returns-3
+    (λ c κs. whole c) returns-4 sound-host-requires returns-5 returns-6)

@@ -66,15 +66,5 @@ pub open-all-spec : {M : Type 1} → statement M
 open-all-spec =
     tie.close
     (tie.spec
-    (λ c κs. search needs)
-    (λ c κs. search needs)
-    (λ c. search needs)
-    clear-requires
-    slice-write-table
-    (λ c. search needs)
-    (λ c. search needs)
-    (λ c. search needs)
-    part-open-end
-    open-requires
-    same-length
-    returns)
+    (λ c κs. search needs) (λ c κs. search needs) (λ c. search needs) clear-requires slice-write-table
+    (λ c. search needs) (λ c. search needs) (λ c. search needs) part-open-end open-requires same-length returns)

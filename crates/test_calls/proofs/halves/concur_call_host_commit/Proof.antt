@@ -44,10 +44,5 @@ concur-call-host-commit-spec =
     tie.close
     (tie.spec
     (λ c. refuses-first _ _ _ _ _ _ _ _ _ _ (c .if1 .taken))
-    (λ c. refuses-second _ _ _ _ _ _ _ _ _ _ (c .before .if1 .left) (c .if2 .taken))
-    load-at-requires
-    (λ c κs. search needs)
-    (λ c. omega arith)
-    (λ c. search needs)
-    (λ c. search needs)
-    returns-3)
+    (λ c. refuses-second _ _ _ _ _ _ _ _ _ _ (c .before .if1 .left) (c .if2 .taken)) load-at-requires
+    (λ c κs. search needs) (λ c. omega arith) (λ c. search needs) (λ c. search needs) returns-3)

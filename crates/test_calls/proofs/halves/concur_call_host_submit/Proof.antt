@@ -42,9 +42,4 @@ pub concur-call-host-submit-spec : {M : Type 1} → statement M
 concur-call-host-submit-spec =
     tie.close
     (tie.spec
-    returns
-    (λ c κs. search needs)
-    store-pair-requires
-    (λ c. search needs)
-    (λ c. search needs)
-    returns-2)
+    returns (λ c κs. search needs) store-pair-requires (λ c. search needs) (λ c. search needs) returns-2)

@@ -41,8 +41,4 @@ pub concur-call-member-begin-spec : {M : Type 1} → statement M
 concur-call-member-begin-spec =
     tie.close
     (tie.spec
-    returns
-    load-value-requires
-    (λ c κs. search needs)
-    (λ c. search needs)
-    returns-2)
+    returns load-value-requires (λ c κs. search needs) (λ c. search needs) returns-2)

@@ -37,9 +37,4 @@ pub concur-call-member-outcome-spec : {M : Type 1} → statement M
 concur-call-member-outcome-spec =
     tie.close
     (tie.spec
-    returns
-    (λ c κs. search needs)
-    hand-out-requires
-    (λ c. search needs)
-    (λ c. search needs)
-    returns-2)
+    returns (λ c κs. search needs) hand-out-requires (λ c. search needs) (λ c. search needs) returns-2)

@@ -47,9 +47,4 @@ pub concur-call-member-reply-spec : {M : Type 1} → statement M
 concur-call-member-reply-spec =
     tie.close
     (tie.spec
-    returns
-    load-at-requires
-    load-at-requires-2
-    (λ c κs. search needs)
-    (λ c. search needs)
-    returns-2)
+    returns load-at-requires load-at-requires-2 (λ c κs. search needs) (λ c. search needs) returns-2)

@@ -52,11 +52,5 @@ concur-call-write-spec =
     tie.close
     (tie.spec
     (λ c. refuses-first _ _ _ _ _ _ _ _ _ _ (c .if1 .taken))
-    (λ c. refuses-second _ _ _ _ _ _ _ _ _ _ (c .before .if1 .left) (c .if2 .taken))
-    (λ c κs. c .before .if1 .left)
-    (λ c κs. search needs)
-    cast-written
-    (λ c. omega arith)
-    (λ c. search needs)
-    (λ c. search needs)
-    returns-3)
+    (λ c. refuses-second _ _ _ _ _ _ _ _ _ _ (c .before .if1 .left) (c .if2 .taken)) (λ c κs. c .before .if1 .left)
+    (λ c κs. search needs) cast-written (λ c. omega arith) (λ c. search needs) (λ c. search needs) returns-3)

@@ -27,12 +27,7 @@ pub store-fields-spec : {M : Type 1} → statement M
 store-fields-spec =
     tie.close
     (tie.spec
-    (λ c. omega (arith, c .before .pre))
-    (λ c. simp length-set (omega (arith, c .before .pre)))
-    (λ c. simp length-set (omega (arith, c .before .pre)))
-    (λ c. simp length-set (omega (arith, c .before .pre)))
-    (λ c. simp length-set (omega (arith, c .before .pre)))
-    (λ c. simp length-set (omega (arith, c .before .pre)))
-    store-pair-requires
-    same-length
-    returns)
+    (λ c. omega (arith, c .before .pre)) (λ c. simp length-set (omega (arith, c .before .pre)))
+    (λ c. simp length-set (omega (arith, c .before .pre))) (λ c. simp length-set (omega (arith, c .before .pre)))
+    (λ c. simp length-set (omega (arith, c .before .pre))) (λ c. simp length-set (omega (arith, c .before .pre)))
+    store-pair-requires same-length returns)
