@@ -1,8 +1,7 @@
 -- Laws of things of one size laid one after the other.
 use Prim.Native.Nat.{ℕ, zero, suc, _+_, _-_, _*_, _≤_, _<_}
-use native.Mathlib.Nat.{suc-mul, zero-mul, mul-le-mul-right}
+use native.Mathlib.Nat.{suc-mul, zero-mul, mul-le-mul-right, mul-le-mul}
 use native.Mathlib.Numerals.{add-one}
-use native.Mathlib.Nat.{mul-le-mul}
 use native.Mathlib.Omega.{arith}
 use mathlib.Core.Path.{_≡_, sym, ap, _∙_, fun-ext}
 use mathlib.Core.Bool.{false}

@@ -18,8 +18,7 @@ use Rattle.model.specs.Positions.{IsBegin, IsDeliver, beganBy, begunCoun
 use Rattle.model.proofs.HistoryLists.{every, every-ended}
 use Rattle.model.proofs.Ordinals.{count-next, count-same, begin-counts, deliver-counts}
 use Rattle.model.proofs.PositionsInvariant.{withRunning, nextOp, Moved, stays, begins, submits, replies, judges, ends}
-use Rattle.model.proofs.PositionsInvariant.{RunningPlace, Unended, Places, Found, runs, decided, FoundIn, Stable, PlacedIn}
-use Rattle.model.proofs.PositionsInvariant.{Taken}
+use Rattle.model.proofs.PositionsInvariant.{RunningPlace, Unended, Places, Found, runs, decided, FoundIn, Stable, PlacedIn, Taken}
 
 -- The parts, a step later.
 

@@ -19,8 +19,7 @@ use Rattle.model.specs.Table.{tableWords}
 use Rattle.model.specs.Script.{firstOf, stepLine, mostSteps}
 use Rattle.script.specs.Meaning.{longestPrinted}
 use Rattle.script_run.specs.Feeding.{State, Event, refuses, opens, steps, Fed, mostKept, overStep, over, start, keep, ended}
-use Rattle.script_run.specs.Feeding.{firstRun, stepRun, lineRun}
-use Rattle.script_run.specs.Feeding.{silent, byteFed, fed, lastEvents, printedEvents}
+use Rattle.script_run.specs.Feeding.{firstRun, stepRun, lineRun, silent, byteFed, fed, lastEvents, printedEvents}
 use Rattle.script_run.specs.Meaning.{eventsOf, EventsHeld, Whole, mostWords, stateOf, Ready, Ran, Took, Wrote, FedInto}
 use Rattle.script_run.specs.declared.Progress.{Progress}
 use Rattle.script_run.specs.declared.Event.{Event as EventStruct}

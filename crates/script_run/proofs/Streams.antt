@@ -18,8 +18,7 @@ use Rattle.model.specs.Board.{opened}
 use Rattle.model.specs.Table.{tableWords}
 use Rattle.model.specs.Runs.{Step}
 use Rattle.model.specs.Script.{startsWith, lineFeed, firstOf, stepLine, stepsFrom, mostSteps, withByte, linesOf, Run, refused, ran}
-use Rattle.model.specs.Script.{boardRun, linesRun, scriptRun}
-use Rattle.model.specs.Script.{boardLine, refusedLine, printedStep, printedSteps, printedRun, scriptOutput}
+use Rattle.model.specs.Script.{boardRun, linesRun, scriptRun, boardLine, refusedLine, printedStep, printedSteps, printedRun, scriptOutput}
 use Rattle.script.proofs.Lines.{line-kept, members-kept}
 use Rattle.script_run.specs.Feeding.{State, Event, refuses, opens, Fed, mostKept, overStep, over, start, keep, ended, firstRun}
 use Rattle.script_run.specs.Feeding.{stepRun, lineRun}

@@ -7,7 +7,7 @@ use mathlib.Core.List.{List}
 use mathlib.Core.Path.{_∙_, _≡_, ap, sym}
 use lib.Dec.{eqb}
 use borrow.Author.Tests.{eq-eqb, ne-eqb}
-use Rattle.lists.specs.Functions.{from}
+use Rattle.lists.specs.Functions.{from, Within}
 use Rattle.lists.specs.Parts.{words}
 use Rattle.model.specs.Member.{check21, check22, check23, check24, check25, check26, check27, haltNumber}
 use Rattle.model.specs.RecordWords.{matrixOf, rowOf}
@@ -17,7 +17,6 @@ use Rattle.rows.specs.Meaning.{matrixIn, rowIn}
 use Rattle.rows.specs.declared.Row.{Row}
 use Rattle.records.specs.Meaning.{recordIn}
 use Rattle.records.specs.declared.Record.{Record}
-use Rattle.lists.specs.Functions.{Within}
 use Rattle.member.proofs.Sizes.{accepted-room, head-room, running-slot, widened}
 use Rattle.member.proofs.halts.halt_number.Statement.{statement}
 use Rattle.member.proofs.halts.halt_number.Tie as tie

@@ -1,11 +1,10 @@
 -- `print_step` meets its contract: the line printed of the done step's parts is what a step that it holds prints.
 use borrow.Author.Needs.{needs}
-use Prim.Native.Nat.{_≤_}
+use Prim.Native.Nat.{_≤_, ℕ}
 use mathlib.Core.Path.{_≡_, sym, _∙_}
 use mathlib.Core.List.{List}
 use native.Mathlib.Omega.{arith}
 use lib.ListN.{length}
-use Prim.Native.Nat.{ℕ}
 use Rattle.script.specs.Meaning.{longestPrinted, given}
 use Rattle.model.specs.Script.{printedLine, printedStep}
 use Rattle.script.proofs.Printing.{line-short}
