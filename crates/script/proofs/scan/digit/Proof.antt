@@ -1,4 +1,4 @@
--- `digit` meets its contract. Assumes nothing.
+-- `digit` meets its contract: below the digits, above them, or one of them, by the two tests.
 use borrow.Author.Needs.{needs}
 use borrow.Author.Tests.{le-leb, lt-leb}
 use Rattle.lists.proofs.Functions.{fails}

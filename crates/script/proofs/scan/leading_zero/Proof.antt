@@ -1,4 +1,4 @@
--- `leading_zero` meets its contract. Assumes nothing.
+-- `leading_zero` meets its contract: fewer than two bytes have none; else it is the first byte that says.
 use borrow.Author.Needs.{needs}
 use borrow.Author.Tests.{lt-ltb, le-ltb}
 use native.Mathlib.Omega.{arith}
