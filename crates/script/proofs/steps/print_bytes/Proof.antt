@@ -27,7 +27,8 @@ loop-again c =
       search needs,
       (
         simp length-set (omega arith),
-        words-more (l .out) (a .at) (l .i) (a .at + l .i) _ (words (a .text .now)) (words (a .out .now)) (l .inv .1 .1) refl (omega arith) refl,
+        words-more (l .out) (a .at) (l .i) (a .at + l .i) _ (words (a .text .now))
+            (words (a .out .now)) (l .inv .1 .1) refl (omega arith) refl,
       ),
     )
 
