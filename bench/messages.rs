@@ -1,8 +1,10 @@
 // The message check, the reader and the writer, proved and in plain Rust. bench/run.sh builds and runs it.
 mod plain_messages;
+mod samples;
 mod timing;
 
 use plain_messages as plain;
+use samples::each_message;
 use std::hint::black_box;
 use timing::{compare, heading};
 
@@ -58,31 +60,6 @@ fn plain_write_copied(bytes: &[u8], n: u32, out: &mut [u8], more: u32) -> u32 {
     number
 }
 
-/// A record with no byte zero after its first three.
-fn a_record(n: u32) -> plain::Record {
-    let mut r = plain::Record { member: 1, slot: n, operation: 1, count: 0x01020304, ..Default::default() };
-    for i in 0..8 {
-        r.value[i] = 0x11223344 + i as u32;
-    }
-    for j in 0..n as usize {
-        for k in 0..n as usize {
-            r.matrix[j].counts[k] = 0x55667788 + (12 * j + k) as u32;
-        }
-    }
-    r
-}
-
-fn a_message(kind: u32, n: u32) -> Vec<u8> {
-    let mut m = plain::Message { kind, member: 1, slot: n, operation: 1, count: 0x01020304, outcome: 1, ..Default::default() };
-    m.newest = a_record(n);
-    m.stored = a_record(n);
-    let mut out = vec![0; 1235];
-    let (number, length) = plain::write(m, n, &mut out);
-    assert_eq!(number, 0);
-    out.truncate(length);
-    out
-}
-
 /// Both must do the same before their times mean anything.
 fn same(bytes: &[u8], n: u32) {
     assert_eq!(our_check(bytes, n), plain_check(bytes, n));
@@ -127,14 +104,12 @@ fn time(what: &str, bytes: &[u8], n: u32) {
 }
 
 fn main() {
-    let kinds = [("submit", plain::SUBMIT), ("reply", plain::REPLY), ("commit", plain::COMMIT), ("outcome", plain::OUTCOME)];
     heading();
     for n in [2, 12] {
-        for (what, kind) in kinds {
-            let bytes = a_message(kind, n);
-            same(&bytes, n);
+        each_message(n, |what, bytes| {
+            same(bytes, n);
             same(&bytes[..bytes.len() - 1], n);
-            time(what, &bytes, n);
-        }
+            time(what, bytes, n);
+        });
     }
 }

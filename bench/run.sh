@@ -1,22 +1,24 @@
 #!/usr/bin/env bash
-# Builds the proved archives and the timing programs, and runs them once: bench/run.sh
+# Builds the proved archives and the timing programs, and runs them once: bench/run.sh [REVISION]
+# With a revision, that revision's message check is timed beside the one that stands here, and nothing else.
 set -eu
 cd "$(dirname "$0")/.."
 out=$(mktemp -d)
 trap 'rm -rf "$out"' EXIT
 
-# bench PROGRAM CRATE..: the program bench/PROGRAM.rs, linked with the archives of these crates. It is built twice: whether plain Rust copies a
-# struct that it hands on by value hangs on how the compiler splits the program, and neither split is the better one for every call.
-bench() {
-    local program=$1 crate units archives=()
+# archive CRATE [FOLDER]: proves the crate and leaves its archive in target/staticlib, here or in that folder.
+archive() {
+    (cd "${2:-.}" && rt staticlib "$1") >"$out/proved" 2>&1 || { cat "$out/proved"; exit 1; }
+}
+
+# timed PROGRAM ARCHIVE..: the program bench/PROGRAM.rs, linked with these archives. It is built twice: whether plain Rust copies a struct that
+# it hands on by value hangs on how the compiler splits the program, and neither split is the better one for every call.
+timed() {
+    local program=$1 units
     shift
-    for crate in "$@"; do
-        rt staticlib "$crate" >"$out/proved" 2>&1 || { cat "$out/proved"; exit 1; }
-        archives+=(-C "link-arg=target/staticlib/lib$crate.a")
-    done
     for units in 1 16; do
         echo "$program, plain Rust in $units units of code:"
-        rustc -C opt-level=3 -C codegen-units=$units --edition 2021 "bench/$program.rs" "${archives[@]}" -o "$out/$program"
+        rustc -C opt-level=3 -C codegen-units=$units --edition 2021 "bench/$program.rs" "${@/#/-Clink-arg=}" -o "$out/$program"
         "$out/$program"
     done
 }
@@ -40,6 +42,23 @@ program() {
     done
 }
 
-bench messages test_calls messages
-bench board board
+# The message check of a revision, under another name, beside the one that stands here.
+earlier() {
+    mkdir "$out/earlier"
+    git archive "$1" | tar -x -C "$out/earlier"
+    archive messages "$out/earlier"
+    objcopy --redefine-sym concur_message_check=earlier_message_check "$out/earlier/target/staticlib/libmessages.a" "$out/libearlier.a"
+    archive messages
+    timed earlier "$out/libearlier.a" target/staticlib/libmessages.a
+}
+
+if [ $# -gt 0 ]; then
+    earlier "$1"
+    exit
+fi
+archive messages
+archive test_calls
+timed messages target/staticlib/libtest_calls.a target/staticlib/libmessages.a
+archive board
+timed board target/staticlib/libboard.a
 program

@@ -20,8 +20,9 @@ use Rattle.model.specs.Records.{Rec, recordWithin}
 use Rattle.model.specs.RecordWords.{recordSize, valueOf, matrixOf, recordOf, recordWords, matrixWord}
 use Rattle.model.specs.Kinds.{isOperation}
 use Rattle.model.specs.Halves.{fitRecord}
-use Rattle.model.specs.Messages.{Message, submit, reply, commit, outcome, kindOf, lengthOf, numberBytes, numberOf, byteIn, numberIn}
-use Rattle.model.specs.Messages.{headed, recordByte, recordWord, recordLength, recordBytes, recordFrom, fieldBytes, framed, encode}
+use Rattle.model.specs.Messages.{Message, submit, reply, commit, outcome, kindOf, byteParts, headLength, valueLength}
+use Rattle.model.specs.Messages.{recordLength, lengthOf, fieldsAt, recordAt, numberBytes, numberOf, byteIn, numberIn}
+use Rattle.model.specs.Messages.{headed, recordByte, recordWord, recordBytes, recordFrom, fieldBytes, framed, encode}
 use Rattle.model.specs.Messages.{messageFrom, fitMessage, rightN, readNumber, decode, fitGiven, writtenLength, writeNumber, smallRecord}
 use Rattle.model.specs.Messages.{small, fits, Bytes, messageWithin}
 use Rattle.laws.proofs.Records.{square-small, square-pos, head-words, value-words}
@@ -123,65 +124,65 @@ run-back b h i =
 -- Records.
 
 module _ (f g : ℕ → ℕ) where
-  headed-first : (i : ℕ) → i < 3 → headed f g i ≡ f i
+  headed-first : (i : ℕ) → i < byteParts → headed f g i ≡ f i
   unfolding headed
-  headed-first i h = rw (lt-ltb i 3 h)
+  headed-first i h = rw (lt-ltb i byteParts h)
 
-  headed-past : (k : ℕ) → headed f g (3 + k) ≡ g k
+  headed-past : (k : ℕ) → headed f g (byteParts + k) ≡ g k
   unfolding headed
-  headed-past k = rw (le-ltb (3 + k) 3 (omega arith)) (ap g (let e : 3 + k - 3 ≡ k = omega arith in e))
+  headed-past k = rw (le-ltb (byteParts + k) byteParts (omega arith)) (ap g (let e : byteParts + k - byteParts ≡ k = omega arith in e))
 
-  headed-rest : from (headed f g) 3 ≡ g
+  headed-rest : from (headed f g) byteParts ≡ g
   unfolding from
   headed-rest = fun-ext headed-past
 
--- what holds of the first three places and of those after them
-by-three : (P : ℕ → Type 0) (i : ℕ) → (i < 3 → P i) → ((k : ℕ) → i ≡ 3 + k → P (3 + k)) → P i
-by-three P i low high = on (ltb i 3)
-    (λ p. low (ltb-true i 3 p))
-    (λ p. let q = ltb-false i 3 p in let e : i ≡ 3 + (i - 3) = omega arith in rw e (high (i - 3) e))
+-- what holds of the parts that are a byte each and of those after them
+by-part : (P : ℕ → Type 0) (i : ℕ) → (i < byteParts → P i) → ((k : ℕ) → i ≡ byteParts + k → P (byteParts + k)) → P i
+by-part P i low high = on (ltb i byteParts)
+    (λ p. low (ltb-true i byteParts p))
+    (λ p. let q = ltb-false i byteParts p in let e : i ≡ byteParts + (i - byteParts) = omega arith in rw e (high (i - byteParts) e))
 
--- the bytes of a record's words: the first three, and those of the words from the k-th after them on
-pub byte-first : (w : ℕ → ℕ) (i : ℕ) → i < 3 → recordByte w i ≡ w i
+-- the bytes of a record's words: the parts that are a byte each, and those of the words from the k-th after them on
+pub byte-first : (w : ℕ → ℕ) (i : ℕ) → i < byteParts → recordByte w i ≡ w i
 unfolding recordByte
-byte-first w = headed-first w (byteIn (from w 3))
+byte-first w = headed-first w (byteIn (from w byteParts))
 
-pub byte-further : (w : ℕ → ℕ) (k i : ℕ) → recordByte w (3 + (k * 4 + i)) ≡ byteIn (from w (3 + k)) i
+pub byte-further : (w : ℕ → ℕ) (k i : ℕ) → recordByte w (byteParts + (k * 4 + i)) ≡ byteIn (from w (byteParts + k)) i
 unfolding recordByte
 byte-further w k i =
-    headed-past w (byteIn (from w 3)) (k * 4 + i)
-    ∙ byteIn-from (from w 3) k i
-    ∙ ap (λ f. byteIn f i) (from-from w 3 k)
+    headed-past w (byteIn (from w byteParts)) (k * 4 + i)
+    ∙ byteIn-from (from w byteParts) k i
+    ∙ ap (λ f. byteIn f i) (from-from w byteParts k)
 
 -- a record's parts by their places in the bytes around it
 module _ (b : ℕ → ℕ) (a : ℕ) where
-  word-first : (i : ℕ) → i < 3 → recordWord (from b a) i ≡ from b a i
+  word-first : (i : ℕ) → i < byteParts → recordWord (from b a) i ≡ from b a i
   unfolding recordWord
-  word-first = headed-first (from b a) (numberIn (from (from b a) 3))
+  word-first = headed-first (from b a) (numberIn (from (from b a) byteParts))
 
-  word-count : recordWord (from b a) 3 ≡ numberOf (from b (a + 3))
+  word-count : recordWord (from b a) byteParts ≡ numberOf (from b (a + byteParts))
   unfolding recordWord
   word-count =
-      headed-past (from b a) (numberIn (from (from b a) 3)) 0
-      ∙ ap (λ w. numberIn w 0) (from-from b a 3)
-      ∙ numberIn-at b (a + 3) 0
-      ∙ ap (λ k. numberOf (from b k)) (let e : a + 3 + 0 * 4 ≡ a + 3 = omega arith in e)
+      headed-past (from b a) (numberIn (from (from b a) byteParts)) 0
+      ∙ ap (λ w. numberIn w 0) (from-from b a byteParts)
+      ∙ numberIn-at b (a + byteParts) 0
+      ∙ ap (λ k. numberOf (from b k)) (let e : a + byteParts + 0 * 4 ≡ a + byteParts = omega arith in e)
 
-  word-further : (k : ℕ) → from (recordWord (from b a)) (3 + k) ≡ numberIn (from b (a + (3 + k * 4)))
+  word-further : (k : ℕ) → from (recordWord (from b a)) (byteParts + k) ≡ numberIn (from b (a + (byteParts + k * 4)))
   unfolding recordWord
   word-further k =
-      sym (from-from (recordWord (from b a)) 3 k)
-      ∙ ap (λ w. from w k) (headed-rest (from b a) (numberIn (from (from b a) 3)))
-      ∙ numberIn-from (from (from b a) 3) k
-      ∙ ap numberIn (from-from (from b a) 3 (k * 4) ∙ from-from b a (3 + k * 4))
+      sym (from-from (recordWord (from b a)) byteParts k)
+      ∙ ap (λ w. from w k) (headed-rest (from b a) (numberIn (from (from b a) byteParts)))
+      ∙ numberIn-from (from (from b a) byteParts) k
+      ∙ ap numberIn (from-from (from b a) byteParts (k * 4) ∙ from-from b a (byteParts + k * 4))
 
 pub recordFrom-parts : (n : ℕ) (b : ℕ → ℕ) (a : ℕ) → recordFrom n (from b a) ≡ record {
   member = b a;
   slot = b (a + 1);
   operation = b (a + 2);
-  count = numberOf (from b (a + 3));
-  value = valueOf (numberIn (from b (a + 7)));
-  matrix = matrixOf n (numberIn (from b (a + 39)));
+  count = numberOf (from b (a + byteParts));
+  value = valueOf (numberIn (from b (a + headLength)));
+  matrix = matrixOf n (numberIn (from b (a + (headLength + valueLength))));
 }
 unfolding recordFrom recordOf
 recordFrom-parts n b a =
@@ -200,11 +201,11 @@ length-recordBytes n r = length-tabulate (recordLength n) (recordByte (words (re
 
 pub recordFrom-same : (n : ℕ) (b c : ℕ → ℕ) → ((i : ℕ) → i < recordLength n → b i ≡ c i) → recordFrom n b ≡ recordFrom n c
 unfolding recordFrom recordWord recordLength recordSize from
-recordFrom-same n b c h = recordOf-same n (recordWord b) (recordWord c) (λ i p. by-three (λ i. recordWord b i ≡ recordWord c i) i
-    (λ q. headed-first b (numberIn (from b 3)) i q ∙ h i (omega arith) ∙ sym (headed-first c (numberIn (from c 3)) i q))
-    (λ k e. headed-past b (numberIn (from b 3)) k
-    ∙ numberIn-same (from b 3) (from c 3) k (λ j q. h (3 + (k * 4 + j)) (omega arith))
-    ∙ sym (headed-past c (numberIn (from c 3)) k)))
+recordFrom-same n b c h = recordOf-same n (recordWord b) (recordWord c) (λ i p. by-part (λ i. recordWord b i ≡ recordWord c i) i
+    (λ q. headed-first b (numberIn (from b byteParts)) i q ∙ h i (omega arith) ∙ sym (headed-first c (numberIn (from c byteParts)) i q))
+    (λ k e. headed-past b (numberIn (from b byteParts)) k
+    ∙ numberIn-same (from b byteParts) (from c byteParts) k (λ j q. h (byteParts + (k * 4 + j)) (omega arith))
+    ∙ sym (headed-past c (numberIn (from c byteParts)) k)))
 
 module _ (n : ℕ) (r : Rec) (ok : smallRecord n r ≡ true) where
   values : Bool
@@ -219,8 +220,8 @@ module _ (n : ℕ) (r : Rec) (ok : smallRecord n r ≡ true) where
       let rest = second (ltb (r .count) 4294967296) (values && counts) ok in
       (first (ltb (r .count) 4294967296) (values && counts) ok, (first values counts rest, second values counts rest))
 
-  small-count : words (recordWords n r) 3 < 4294967296
-  small-count = rw (head-words n r 3 (omega arith)) (ltb-true (r .count) 4294967296 (parts .0))
+  small-count : words (recordWords n r) byteParts < 4294967296
+  small-count = rw (head-words n r byteParts (omega arith)) (ltb-true (r .count) 4294967296 (parts .0))
 
   small-value : (i : ℕ) → i < 8 → from (words (recordWords n r)) 4 i < 4294967296
   unfolding values
@@ -239,23 +240,23 @@ module _ (n : ℕ) (r : Rec) (ok : smallRecord n r ≡ true) where
       (ltb-true (r .matrix (i / n + 1) (i % n + 1)) 4294967296
       (each-at n (λ k. ltb (r .matrix (i / n + 1) k) 4294967296) each-row (i % n + 1) (omega arith) (omega arith)))
 
-  record-small : (k : ℕ) → 3 + k < recordSize n → words (recordWords n r) (3 + k) < 4294967296
+  record-small : (k : ℕ) → byteParts + k < recordSize n → words (recordWords n r) (byteParts + k) < 4294967296
   unfolding recordSize from
   record-small k h = by-place 1 8 k
       (λ p. let e : k ≡ 0 = omega arith in rw e small-count)
-      (λ p q. let e : 3 + k ≡ 4 + (k - 1) = omega arith in rw e (small-value (k - 1) (omega arith)))
-      (λ p. let e : 3 + k ≡ 12 + (k - 9) = omega arith in rw e (small-matrix (k - 9) (omega arith)))
+      (λ p q. let e : byteParts + k ≡ 4 + (k - 1) = omega arith in rw e (small-value (k - 1) (omega arith)))
+      (λ p. let e : byteParts + k ≡ 12 + (k - 9) = omega arith in rw e (small-matrix (k - 9) (omega arith)))
 
   -- a record's bytes read back as what the board has of it
   pub record-back : recordFrom n (words (recordBytes n r)) ≡ recordWithin n r
   unfolding recordBytes recordFrom recordByte recordWord from
   record-back =
       recordFrom-same n (words (recordBytes n r)) (recordByte w) (tabulate-at (recordLength n) (recordByte w))
-      ∙ recordOf-same n (recordWord (recordByte w)) w (λ i p. by-three (λ i. recordWord (recordByte w) i ≡ w i) i
-      (λ q. headed-first (recordByte w) (numberIn (from (recordByte w) 3)) i q ∙ headed-first w (byteIn (from w 3)) i q)
-      (λ k e. headed-past (recordByte w) (numberIn (from (recordByte w) 3)) k
-      ∙ ap (λ f. numberIn f k) (headed-rest w (byteIn (from w 3)))
-      ∙ numbers-back (from w 3) k (record-small k (omega arith))))
+      ∙ recordOf-same n (recordWord (recordByte w)) w (λ i p. by-part (λ i. recordWord (recordByte w) i ≡ w i) i
+      (λ q. headed-first (recordByte w) (numberIn (from (recordByte w) byteParts)) i q ∙ headed-first w (byteIn (from w byteParts)) i q)
+      (λ k e. headed-past (recordByte w) (numberIn (from (recordByte w) byteParts)) k
+      ∙ ap (λ f. numberIn f k) (headed-rest w (byteIn (from w byteParts)))
+      ∙ numbers-back (from w byteParts) k (record-small k (omega arith))))
       ∙ recordOf-words n r
     where
       w : ℕ → ℕ
@@ -266,11 +267,12 @@ pub record-again : (n : ℕ) (b : ℕ → ℕ) → ((i : ℕ) → b i < 256) →
 unfolding recordBytes recordFrom recordByte recordWord recordLength recordSize from
 record-again n b h =
     ap (λ l. tabulate (recordLength n) (recordByte (words l))) (recordWords-of n (recordWord b))
-    ∙ tabulate-same (recordLength n) (recordByte w) b (λ i p. by-three (λ i. recordByte w i ≡ b i) i
-    (λ q. headed-first w (byteIn (from w 3)) i q ∙ read i (omega arith) ∙ headed-first b (numberIn (from b 3)) i q)
-    (λ k e. headed-past w (byteIn (from w 3)) k
-    ∙ byteIn-same (from w 3) (numberIn (from b 3)) k (read (3 + k / 4) (omega arith) ∙ headed-past b (numberIn (from b 3)) (k / 4))
-    ∙ run-back (from b 3) (λ i. h (3 + i)) k))
+    ∙ tabulate-same (recordLength n) (recordByte w) b (λ i p. by-part (λ i. recordByte w i ≡ b i) i
+    (λ q. headed-first w (byteIn (from w byteParts)) i q ∙ read i (omega arith) ∙ headed-first b (numberIn (from b byteParts)) i q)
+    (λ k e. headed-past w (byteIn (from w byteParts)) k
+    ∙ byteIn-same (from w byteParts) (numberIn (from b byteParts)) k
+    (read (byteParts + k / 4) (omega arith) ∙ headed-past b (numberIn (from b byteParts)) (k / 4))
+    ∙ run-back (from b byteParts) (λ i. h (byteParts + i)) k))
   where
     w : ℕ → ℕ
     w = words (tabulate (recordSize n) (recordWord b))
@@ -293,10 +295,14 @@ lengthOf-least kind n = on (eqb kind 1) (λ p. rw p (omega arith)) (λ p.
     on (eqb kind 2) (λ q. rw (p, q) (omega arith)) (λ q.
     on (eqb kind 3) (λ r. rw (p, q, r) (omega arith)) (λ r. rw (p, q, r) (omega arith))))
 
+pub recordLength-most : (n : ℕ) → n ≤ 12 → recordLength n ≤ 615
+unfolding recordLength
+recordLength-most n h = omega (arith, square-small n h)
+
 pub lengthOf-most : (kind n : ℕ) → n ≤ 12 → lengthOf kind n ≤ 1233
 unfolding lengthOf
 lengthOf-most kind n h =
-    let s = square-small n h in
+    let s = recordLength-most n h in
     on (eqb kind 1) (λ p. rw p (omega arith)) (λ p.
     on (eqb kind 2) (λ q. rw (p, q) (omega arith)) (λ q.
     on (eqb kind 3) (λ r. rw (p, q, r) (omega arith)) (λ r. rw (p, q, r) (omega arith))))
@@ -409,19 +415,19 @@ by-kind k a b c d other =
     other (eqb-false k 1 p) (eqb-false k 2 q) (eqb-false k 3 r) (eqb-false k 4 s)))))
 
 module _ (n : ℕ) (b : ℕ → ℕ) where
-  pub from-submit : b 3 ≡ 1 → messageFrom n b ≡ submit (b 4) (b 5) (b 6) (numberOf (from b 7))
+  pub from-submit : b 3 ≡ 1 → messageFrom n b ≡ submit (b fieldsAt) (b (fieldsAt + 1)) (b (fieldsAt + 2)) (numberOf (from b (fieldsAt + 3)))
   unfolding messageFrom
   from-submit e = rw e
 
-  pub from-reply : b 3 ≡ 2 → messageFrom n b ≡ reply (recordFrom n (from b 5)) (recordFrom n (from b (5 + recordLength n)))
+  pub from-reply : b 3 ≡ 2 → messageFrom n b ≡ reply (recordFrom n (from b recordAt)) (recordFrom n (from b (recordAt + recordLength n)))
   unfolding messageFrom
   from-reply e = rw e
 
-  pub from-commit : b 3 ≡ 3 → messageFrom n b ≡ commit (recordFrom n (from b 5))
+  pub from-commit : b 3 ≡ 3 → messageFrom n b ≡ commit (recordFrom n (from b recordAt))
   unfolding messageFrom
   from-commit e = rw e
 
-  pub from-outcome : b 3 ≡ 4 → messageFrom n b ≡ outcome (b 4)
+  pub from-outcome : b 3 ≡ 4 → messageFrom n b ≡ outcome (b fieldsAt)
   unfolding messageFrom
   from-outcome e = rw e
 
@@ -439,27 +445,27 @@ abbrev pub judged : ℕ → (ℕ → ℕ) → Bool
 judged n b = rightN n b && fitMessage n (messageFrom n b)
 
 module _ (n : ℕ) (b : ℕ → ℕ) where
-  pub judged-submit : b 3 ≡ 1 → judged n b ≡ fitAt n b 4
+  pub judged-submit : b 3 ≡ 1 → judged n b ≡ fitAt n b fieldsAt
   unfolding rightN fitMessage
   judged-submit e = rw (from-submit n b e, e)
 
-  pub judged-outcome : b 3 ≡ 4 → judged n b ≡ inside 2 (b 4)
+  pub judged-outcome : b 3 ≡ 4 → judged n b ≡ inside 2 (b fieldsAt)
   unfolding rightN fitMessage
   judged-outcome e = rw (from-outcome n b e, e)
 
-  pub judged-commit : b 3 ≡ 3 → b 4 ≡ n → judged n b ≡ fitAt n b 5
+  pub judged-commit : b 3 ≡ 3 → b fieldsAt ≡ n → judged n b ≡ fitAt n b recordAt
   unfolding rightN fitMessage
-  judged-commit e d = rw (from-commit n b e, e, eq-eqb (b 4) n d) (fit-record n b 5)
+  judged-commit e d = rw (from-commit n b e, e, eq-eqb (b fieldsAt) n d) (fit-record n b recordAt)
 
-  pub judged-reply : b 3 ≡ 2 → b 4 ≡ n → judged n b ≡ (fitAt n b 5 && fitAt n b (5 + recordLength n))
+  pub judged-reply : b 3 ≡ 2 → b fieldsAt ≡ n → judged n b ≡ (fitAt n b recordAt && fitAt n b (recordAt + recordLength n))
   unfolding rightN fitMessage
-  judged-reply e d = rw (from-reply n b e, e, eq-eqb (b 4) n d, fit-record n b 5, fit-record n b (5 + recordLength n))
+  judged-reply e d = rw (from-reply n b e, e, eq-eqb (b fieldsAt) n d, fit-record n b recordAt, fit-record n b (recordAt + recordLength n))
 
-  pub judged-misnamed : 1 < b 3 → b 3 < 4 → (b 4 ≡ n → ⊥) → judged n b ≡ false
+  pub judged-misnamed : 1 < b 3 → b 3 < 4 → (b fieldsAt ≡ n → ⊥) → judged n b ≡ false
   unfolding rightN
   judged-misnamed p q d = on (eqb (b 3) 2)
-      (λ e. rw (e, ne-eqb (b 4) n d))
-      (λ e. let f = eqb-false (b 3) 2 e in rw (e, eq-eqb (b 3) 3 (omega arith), ne-eqb (b 4) n d))
+      (λ e. rw (e, ne-eqb (b fieldsAt) n d))
+      (λ e. let f = eqb-false (b 3) 2 e in rw (e, eq-eqb (b 3) 3 (omega arith), ne-eqb (b fieldsAt) n d))
 
 -- The bytes of a message: five that every kind has, then the rest of its fields.
 
@@ -583,9 +589,9 @@ read-back n m low high h =
 -- Bytes that were read, written again.
 
 -- a reply and a commit name n
-named : (n : ℕ) (b : ℕ → ℕ) (k : ℕ) → (eqb k 2 || eqb k 3) ≡ true → b 3 ≡ k → rightN n b ≡ true → b 4 ≡ n
+named : (n : ℕ) (b : ℕ → ℕ) (k : ℕ) → (eqb k 2 || eqb k 3) ≡ true → b 3 ≡ k → rightN n b ≡ true → b fieldsAt ≡ n
 unfolding rightN
-named n b k t e h = eqb-true (b 4) n (rw (e, t) at h)
+named n b k t e h = eqb-true (b fieldsAt) n (rw (e, t) at h)
 
 module _ (n : ℕ) (l : List ℕ) (whole : Bytes l) (h : Readable n l) where
   b : ℕ → ℕ
@@ -593,7 +599,7 @@ module _ (n : ℕ) (l : List ℕ) (whole : Bytes l) (h : Readable n l) where
 
   -- enough: the kind, and the bytes after it
   same-bytes : (m : Message) (k : ℕ) → b 3 ≡ k → kindOf m ≡ k
-      → (size : ℕ) → lengthOf k n ≡ 2 + size → fieldBytes n m ≡ tabulate size (from b 4) → encode n m ≡ l
+      → (size : ℕ) → lengthOf k n ≡ 2 + size → fieldBytes n m ≡ tabulate size (from b fieldsAt) → encode n m ≡ l
   unfolding encode framed b tabulate from
   same-bytes m k e c size d f =
       (λ i. high i ∷ low i ∷ sym (h .version) i ∷ (c ∙ sym e) i ∷ f i)
@@ -605,7 +611,7 @@ module _ (n : ℕ) (l : List ℕ) (whole : Bytes l) (h : Readable n l) where
       long = h .whole ∙ ap (λ k. 2 + lengthOf k n) e
 
       rest : length (fieldBytes n m) ≡ size
-      rest = ap length f ∙ length-tabulate size (from b 4)
+      rest = ap length f ∙ length-tabulate size (from b fieldsAt)
 
       high : length (1 ∷ kindOf m ∷ fieldBytes n m) / 256 ≡ b 0
       high = omega (arith, long, rest, h .field, whole 1)
@@ -627,33 +633,33 @@ module _ (n : ℕ) (l : List ℕ) (whole : Bytes l) (h : Readable n l) where
   unfolding b from
   record-part a = record-again n (from b a) (λ i. whole (a + i))
 
-  named-part : (k : ℕ) → (eqb k 2 || eqb k 3) ≡ true → b 3 ≡ k → (size : ℕ) (rest : List ℕ) → rest ≡ tabulate size (from b 5)
-      → n ∷ rest ≡ tabulate (1 + size) (from b 4)
+  named-part : (k : ℕ) → (eqb k 2 || eqb k 3) ≡ true → b 3 ≡ k → (size : ℕ) (rest : List ℕ) → rest ≡ tabulate size (from b recordAt)
+      → n ∷ rest ≡ tabulate (1 + size) (from b fieldsAt)
   unfolding b tabulate from
   named-part k t e size rest f =
       (λ i. sym (named n b k t e (h .right)) i ∷ f i)
-      ∙ ap (λ w. b 4 ∷ tabulate size w) (sym (from-from b 4 1))
-      ∙ sym (tabulate-append 1 size (from b 4))
+      ∙ ap (λ w. b 4 ∷ tabulate size w) (sym (from-from b fieldsAt 1))
+      ∙ sym (tabulate-append 1 size (from b fieldsAt))
 
   reply-again : b 3 ≡ 2 → encode n (messageFrom n b) ≡ l
   unfolding kindOf lengthOf recordLength fieldBytes
   reply-again e =
       let k = recordLength n in
-      let newest = recordFrom n (from b 5) in
-      let stored = recordFrom n (from b (5 + k)) in
+      let newest = recordFrom n (from b recordAt) in
+      let stored = recordFrom n (from b (recordAt + k)) in
       ap (encode n) (from-reply n b e)
       ∙ same-bytes (reply newest stored) 2 e refl (1 + (k + k)) (omega arith)
       (named-part 2 refl e (k + k) (recordBytes n newest ++ recordBytes n stored)
-      ((λ i. record-part 5 i ++ record-part (5 + k) i)
-      ∙ ap (λ w. tabulate k (from b 5) ++ tabulate k w) (sym (from-from b 5 k))
-      ∙ sym (tabulate-append k k (from b 5))))
+      ((λ i. record-part recordAt i ++ record-part (recordAt + k) i)
+      ∙ ap (λ w. tabulate k (from b recordAt) ++ tabulate k w) (sym (from-from b recordAt k))
+      ∙ sym (tabulate-append k k (from b recordAt))))
 
   commit-again : b 3 ≡ 3 → encode n (messageFrom n b) ≡ l
   unfolding kindOf lengthOf recordLength fieldBytes
   commit-again e =
       ap (encode n) (from-commit n b e)
-      ∙ same-bytes (commit (recordFrom n (from b 5))) 3 e refl (1 + recordLength n) (omega arith)
-      (named-part 3 refl e (recordLength n) (recordBytes n (recordFrom n (from b 5))) (record-part 5))
+      ∙ same-bytes (commit (recordFrom n (from b recordAt))) 3 e refl (1 + recordLength n) (omega arith)
+      (named-part 3 refl e (recordLength n) (recordBytes n (recordFrom n (from b recordAt))) (record-part recordAt))
 
   outcome-again : b 3 ≡ 4 → encode n (messageFrom n b) ≡ l
   unfolding b kindOf lengthOf fieldBytes tabulate from

@@ -9,7 +9,7 @@ use Rattle.lists.specs.Parts.{words, tabulate}
 use Rattle.lists.proofs.Functions.{pasted-one, pasted-join, pasted-same, numbered-same, numbered-padded}
 use Rattle.lists.proofs.Parts.{words-set, words-more, tabulate-at}
 use Rattle.model.specs.RecordWords.{rowOf, matrixWord, recordWords}
-use Rattle.model.specs.Messages.{numberBytes, byteIn, recordByte, recordLength}
+use Rattle.model.specs.Messages.{numberLength, byteParts, headLength, valueLength, recordLength, numberBytes, byteIn, recordByte}
 use Rattle.laws.proofs.Records.{square-small, row-within, row-next, matrixWord-at, head-words, value-words, matrix-words, valueOf-at}
 use Rattle.laws.proofs.Messages.{byteIn-at, byteIn-from, byteIn-same, byte-first, byte-further}
 use Rattle.rows.specs.declared.Row.{Row}
@@ -86,55 +86,62 @@ row-written m n j a w h p =
         ∙ count-at (getD m j noRow) i (omega arith)
 
 -- A record written part by part: its three bytes, its count, its value, its matrix.
+
+-- where the matrix begins
+abbrev matrixFrom : ℕ
+matrixFrom = headLength + valueLength
+
 module _ (n : ℕ) (r : Record) where
   held : ℕ → ℕ
   held = words (recordWords n (recordIn r))
 
-  first-bytes : (i : ℕ) → i < 3 → words (r .member ∷ r .slot ∷ r .operation ∷ []) i ≡ recordByte held i
+  first-bytes : (i : ℕ) → i < byteParts → words (r .member ∷ r .slot ∷ r .operation ∷ []) i ≡ recordByte held i
   unfolding held recordIn
   first-bytes i h =
       sym (byte-first held i h
       ∙ head-words n (recordIn r) i (omega arith)
       ∙ List·getD-append (r .member ∷ r .slot ∷ r .operation ∷ []) (r .count ∷ []) 0 i h)
 
-  count-bytes : (i : ℕ) → i < 4 → words (numberBytes (r .count)) i ≡ recordByte held (3 + i)
+  count-bytes : (i : ℕ) → i < 4 → words (numberBytes (r .count)) i ≡ recordByte held (byteParts + i)
   unfolding held recordIn from
   count-bytes i h =
       let e : 0 * 4 + i ≡ i = omega arith in
-      ap (λ x. words (numberBytes x) i) (sym (head-words n (recordIn r) 3 (omega arith)))
-      ∙ sym (byteIn-at (from held 3) 0 i h)
-      ∙ ap (byteIn (from held 3)) e
+      ap (λ x. words (numberBytes x) i) (sym (head-words n (recordIn r) byteParts (omega arith)))
+      ∙ sym (byteIn-at (from held byteParts) 0 i h)
+      ∙ ap (byteIn (from held byteParts)) e
       ∙ sym (byte-further held 0 i)
-      ∙ ap (λ k. recordByte held (3 + k)) e
+      ∙ ap (λ k. recordByte held (byteParts + k)) e
 
-  value-bytes : (i : ℕ) → i < 32 → byteIn (words (r .value)) i ≡ recordByte held (7 + i)
+  value-bytes : (i : ℕ) → i < valueLength → byteIn (words (r .value)) i ≡ recordByte held (headLength + i)
   unfolding held recordIn
   value-bytes i h =
       let e = value-words n (recordIn r) (i / 4) (omega arith) ∙ valueOf-at (words (r .value)) (i / 4) (omega arith) in
       byteIn-same (words (r .value)) (from held 4) i (sym e)
       ∙ sym (byte-further held 1 i)
-      ∙ ap (recordByte held) (let e : 3 + (1 * 4 + i) ≡ 7 + i = omega arith in e)
+      ∙ ap (recordByte held) (let e : byteParts + (1 * 4 + i) ≡ headLength + i = omega arith in e)
 
-  matrix-bytes : (i : ℕ) → i < n * n * 4 → byteIn (matrixWord n (matrixIn (r .matrix))) i ≡ recordByte held (39 + i)
+  matrix-bytes : (i : ℕ) → i < n * n * 4 → byteIn (matrixWord n (matrixIn (r .matrix))) i ≡ recordByte held (matrixFrom + i)
   unfolding held recordIn
   matrix-bytes i h =
       byteIn-same (matrixWord n (matrixIn (r .matrix))) (from held 12) i (sym (matrix-words n (recordIn r) (i / 4) (omega arith)))
       ∙ sym (byte-further held 9 i)
-      ∙ ap (recordByte held) (let e : 3 + (9 * 4 + i) ≡ 39 + i = omega arith in e)
+      ∙ ap (recordByte held) (let e : byteParts + (9 * 4 + i) ≡ matrixFrom + i = omega arith in e)
 
   pub record-written : (l : List ℕ) (a : ℕ) → a + recordLength n ≤ length l → (s t u : List ℕ)
-      → words s ≡ pasted (a + 3) 4 (words (numberBytes (r .count))) (words (stores (set l a (r .member)) a 1 (r .slot ∷ r .operation ∷ [])))
-      → words t ≡ pasted (a + 7) 32 (byteIn (words (r .value))) (words s)
-      → words u ≡ pasted (a + 39) (n * n * 4) (byteIn (matrixWord n (matrixIn (r .matrix)))) (words t)
+      → words s ≡ pasted (a + byteParts) numberLength (words (numberBytes (r .count)))
+      (words (stores (set l a (r .member)) a 1 (r .slot ∷ r .operation ∷ [])))
+      → words t ≡ pasted (a + headLength) valueLength (byteIn (words (r .value))) (words s)
+      → words u ≡ pasted (a + matrixFrom) (n * n * 4) (byteIn (matrixWord n (matrixIn (r .matrix)))) (words t)
       → words u ≡ pasted a (recordLength n) (recordByte (words (recordWords n (recordIn r)))) (words l)
   unfolding held recordLength
   record-written l a fits s t u p q e =
       e
-      ∙ ap (pasted (a + 39) (n * n * 4) (byteIn (matrixWord n (matrixIn (r .matrix))))) (q
-      ∙ ap (pasted (a + 7) 32 (byteIn (words (r .value)))) (p
-      ∙ ap (pasted (a + 3) 4 (words (numberBytes (r .count)))) (stored l a (r .member) (r .slot ∷ r .operation ∷ []) (omega arith)
-      ∙ pasted-same a 3 (words (r .member ∷ r .slot ∷ r .operation ∷ [])) (recordByte held) (words l) first-bytes)
-      ∙ pasted-join a 3 4 (recordByte held) (words (numberBytes (r .count))) (words l) count-bytes)
-      ∙ pasted-join a 7 32 (recordByte held) (byteIn (words (r .value))) (words l) value-bytes)
-      ∙ pasted-join a 39 (n * n * 4) (recordByte held) (byteIn (matrixWord n (matrixIn (r .matrix)))) (words l) matrix-bytes
-      ∙ ap (λ k. pasted a k (recordByte held) (words l)) (let d : 39 + n * n * 4 ≡ 39 + 4 * (n * n) = omega arith in d)
+      ∙ ap (pasted (a + matrixFrom) (n * n * 4) (byteIn (matrixWord n (matrixIn (r .matrix))))) (q
+      ∙ ap (pasted (a + headLength) valueLength (byteIn (words (r .value)))) (p
+      ∙ ap (pasted (a + byteParts) numberLength (words (numberBytes (r .count))))
+      (stored l a (r .member) (r .slot ∷ r .operation ∷ []) (omega arith)
+      ∙ pasted-same a byteParts (words (r .member ∷ r .slot ∷ r .operation ∷ [])) (recordByte held) (words l) first-bytes)
+      ∙ pasted-join a byteParts numberLength (recordByte held) (words (numberBytes (r .count))) (words l) count-bytes)
+      ∙ pasted-join a headLength valueLength (recordByte held) (byteIn (words (r .value))) (words l) value-bytes)
+      ∙ pasted-join a matrixFrom (n * n * 4) (recordByte held) (byteIn (matrixWord n (matrixIn (r .matrix)))) (words l) matrix-bytes
+      ∙ ap (λ k. pasted a k (recordByte held) (words l)) (let d : matrixFrom + n * n * 4 ≡ recordLength n = omega arith in d)

@@ -5,29 +5,59 @@ ghost use lib.ListN.{length};
 ghost use Rattle.lists.specs.Functions.{from, pasted};
 ghost use Rattle.lists.specs.Parts.{words};
 ghost use Rattle.model.specs.RecordWords.{rowOf, matrixOf, valueOf, matrixWord, recordWords};
-ghost use Rattle.model.specs.Messages.{numberBytes, numberOf, byteIn, numberIn, recordByte, recordLength, recordFrom};
+ghost use Rattle.model.specs.Messages.{recordLength, recordAt, numberBytes, numberOf, byteIn, numberIn, recordByte, recordFrom};
 ghost use Rattle.rows.specs.Meaning.{rowIn, matrixIn};
 ghost use Rattle.records.specs.Meaning.{recordIn};
 ghost use Rattle.message_bytes.specs.Needs.{InBytes};
 use records::Record;
 use rows::Row;
 
+// The lengths of what a message holds, in bytes. Every length and every place of a message is put together from them.
+
+// The length field, and the header that it counts: version and kind.
+pub const FRAME_LENGTH: usize = 2;
+
+pub const HEADER_LENGTH: usize = 2;
+
+// The n of a reply and of a commit.
+pub const N_LENGTH: usize = 1;
+
+// A count, and each number of a value and of a matrix.
+pub const NUMBER_LENGTH: usize = 4;
+
+// How many parts of a record are a byte each; these and the count; the value.
+const BYTE_PARTS: usize = 3;
+
+const HEAD_LENGTH: usize = BYTE_PARTS + NUMBER_LENGTH;
+
+const VALUE_LENGTH: usize = 8 * NUMBER_LENGTH;
+
 // Where the count, the value and the matrix of a record begin.
-const COUNT_AT: usize = 3;
+const COUNT_AT: usize = BYTE_PARTS;
 
-const VALUE_AT: usize = 7;
+const VALUE_AT: usize = HEAD_LENGTH;
 
-const MATRIX_AT: usize = 39;
+const MATRIX_AT: usize = HEAD_LENGTH + VALUE_LENGTH;
 
-// Where the record begins in a message that has one.
-pub const RECORD_AT: usize = 5;
+// Where the fields of a message begin, and the record of one that has it.
+pub const FIELDS_AT: usize = FRAME_LENGTH + HEADER_LENGTH;
+
+pub const RECORD_AT: usize = FIELDS_AT + N_LENGTH;
+
+// A whole record.
+pub fn record_length(n: usize) -> usize
+    requires { ⌜ n ≤ 12 ⌝ }
+    ensures { λ r. ⌜ r ≡ recordLength n ⌝ }
+{
+    HEAD_LENGTH + VALUE_LENGTH + NUMBER_LENGTH * (n * n)
+}
 
 // Where the second record of a reply begins.
 pub fn second_at(n: usize) -> usize
     requires { ⌜ n ≤ 12 ⌝ }
-    ensures { λ r. ⌜ r ≡ 5 + recordLength n ⌝ }
+    ensures { λ r. ⌜ r ≡ recordAt + recordLength n ⌝ }
 {
-    RECORD_AT + MATRIX_AT + 4 * (n * n)
+    RECORD_AT + record_length(n)
 }
 
 pub fn wide(x: u8) -> u32

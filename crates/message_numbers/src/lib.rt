@@ -7,6 +7,8 @@ ghost use Rattle.lists.specs.Functions.{inside};
 ghost use Rattle.lists.specs.Parts.{words};
 ghost use Rattle.model.specs.Kinds.{isOperation};
 ghost use Rattle.model.specs.Messages.{lengthOf, messageFrom, fitMessage, rightN, readNumber};
+use message_bytes::steps::FIELDS_AT;
+use message_bytes::steps::FRAME_LENGTH;
 use message_bytes::steps::RECORD_AT;
 use message_bytes::steps::second_at;
 use message_bytes::steps::wide;
@@ -42,9 +44,9 @@ fn fields_fit(s: &[u8], n: u32) -> bool
 {
     let kind = wide(s[3]);
     if kind == SUBMIT {
-        return fields_at(s, 4, n);
+        return fields_at(s, FIELDS_AT, n);
     }
-    let fifth = wide(s[4]);
+    let fifth = wide(s[FIELDS_AT]);
     if kind == OUTCOME {
         return is_numbered(fifth, 2);
     }
@@ -77,7 +79,7 @@ pub fn reader_number(s: &[u8], n: u32) -> u32
     if size < 4 {
         return 12;
     }
-    let rest = size - 2;
+    let rest = size - FRAME_LENGTH;
     let field = length_field(s[0], s[1]);
     if field != rest {
         return 12;

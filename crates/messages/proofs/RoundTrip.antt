@@ -18,9 +18,9 @@ use Rattle.model.specs.Records.{recordWithin}
 use Rattle.model.specs.RecordWords.{recordWords, matrixWord}
 use Rattle.model.specs.Kinds.{isOperation}
 use Rattle.model.specs.Halves.{fitRecord}
-use Rattle.model.specs.Messages.{Message, submit, reply, commit, outcome, lengthOf, numberBytes, byteIn, headed, recordByte, recordWord}
-use Rattle.model.specs.Messages.{recordLength, recordBytes, recordFrom, encode, messageFrom, fitMessage, readNumber, decode, fitGiven}
-use Rattle.model.specs.Messages.{writtenLength, writeNumber, writable, writtenTo, smallRecord, small, fits, Bytes, messageWithin}
+use Rattle.model.specs.Messages.{Message, submit, reply, commit, outcome, recordLength, lengthOf, recordAt, numberBytes, byteIn, headed}
+use Rattle.model.specs.Messages.{recordByte, recordWord, recordBytes, recordFrom, encode, messageFrom, fitMessage, readNumber, decode}
+use Rattle.model.specs.Messages.{fitGiven, writtenLength, writeNumber, writable, writtenTo, smallRecord, small, fits, Bytes, messageWithin}
 use Rattle.laws.proofs.Records.{within-read}
 use Rattle.laws.proofs.Messages.{Readable, readable, by-kind, decoded, writable-of, from-submit, from-reply, from-commit, from-outcome}
 use Rattle.laws.proofs.Messages.{submit-parts, reply-parts, commit-parts, outcome-parts, read-back, written-again}
@@ -164,8 +164,8 @@ within-message n l h =
     let w = words l in
     by-kind (w 3)
     (λ e. rw (from-submit n w e))
-    (λ e. rw (from-reply n w e, from-within n (from w 5), from-within n (from w (5 + recordLength n))))
-    (λ e. rw (from-commit n w e, from-within n (from w 5)))
+    (λ e. rw (from-reply n w e, from-within n (from w recordAt), from-within n (from w (recordAt + recordLength n))))
+    (λ e. rw (from-commit n w e, from-within n (from w recordAt)))
     (λ e. rw (from-outcome n w e))
     (λ p q r s. absurd (omega (arith, h .kind-low, h .kind-high)))
 
@@ -198,7 +198,7 @@ case kind m bytes e fit l h =
 
 -- THE ROUND TRIP of messages by value.
 pub round-trip : RoundTrip
-unfolding example exampleRecord exampleBytes messageOf fitMessage fitRecord inside isOperation lengthOf numberBytes
+unfolding example exampleRecord exampleBytes messageOf fitMessage fitRecord inside isOperation recordLength lengthOf numberBytes
 round-trip =
     let a = exampleRecord 1 in
     let b = exampleRecord 2 in

@@ -6,6 +6,7 @@ ghost use Rattle.messages.specs.Meaning.{fieldsIn, fieldsOf, fieldsRead,
 use crate::numbers::writer_number;
 use crate::reader::read_message;
 use crate::writer::write_message;
+use message_bytes::steps::FRAME_LENGTH;
 use message_numbers::reader_number;
 use message_numbers::steps::length_of;
 use records::Record;
@@ -78,7 +79,7 @@ pub fn write(message: Message, n: u32, out: &mut [u8]) -> Written
         return Written { number, length: 0 };
     }
     let kind = message.kind;
-    let length = 2 + length_of(kind, n);
+    let length = FRAME_LENGTH + length_of(kind, n);
     write_message(out, n, message);
     Written { number: 0, length }
 }

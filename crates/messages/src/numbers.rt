@@ -3,6 +3,7 @@ ghost use mathlib.Core.Path.{_≡_};
 ghost use Rattle.model.specs.Messages.{fitGiven, writeNumber};
 ghost use Rattle.messages.specs.Meaning.{fieldsIn, messageOf};
 use crate::Message;
+use message_bytes::steps::FRAME_LENGTH;
 use message_numbers::COMMIT;
 use message_numbers::OUTCOME;
 use message_numbers::REPLY;
@@ -48,7 +49,7 @@ pub fn writer_number(message: Message, n: u32, room: usize) -> u32
         return 15;
     }
     let kind = message.kind;
-    let size = 2 + length_of(kind, n);
+    let size = FRAME_LENGTH + length_of(kind, n);
     if room < size {
         return 16;
     }

@@ -4,9 +4,11 @@ ghost use Prim.Native.Nat.{_+_, _≤_};
 ghost use lib.ListN.{length};
 ghost use Rattle.lists.specs.Functions.{from};
 ghost use Rattle.lists.specs.Parts.{words};
-ghost use Rattle.model.specs.Messages.{submit, reply, commit, numberOf, recordLength, recordFrom, messageFrom, readNumber};
+ghost use Rattle.model.specs.Messages.{submit, reply, commit, frameLength, recordLength, submitLength, fieldsAt, recordAt, numberOf};
+ghost use Rattle.model.specs.Messages.{recordFrom, messageFrom, readNumber};
 ghost use Rattle.messages.specs.Meaning.{Holds};
 use crate::Message;
+use message_bytes::steps::FIELDS_AT;
 use message_bytes::steps::RECORD_AT;
 use message_bytes::steps::read_number;
 use message_bytes::steps::read_record;
@@ -19,22 +21,23 @@ use message_numbers::SUBMIT;
 use records::Record;
 
 fn read_submit(s: &[u8]) -> Message
-    requires { ⌜ 11 ≤ length (now s) ⌝ }
-    ensures { λ r. ⌜ (let b = words (now (s .entry)) in Holds r (submit (b 4) (b 5) (b 6) (numberOf (from b 7)))) ⌝ }
+    requires { ⌜ frameLength + submitLength ≤ length (now s) ⌝ }
+    ensures { λ r. ⌜ (let b = words (now (s .entry)) in
+        Holds r (submit (b fieldsAt) (b (fieldsAt + 1)) (b (fieldsAt + 2)) (numberOf (from b (fieldsAt + 3))))) ⌝ }
 {
     let mut m = Message::refused(0);
     m.kind = SUBMIT;
-    m.member = wide(s[4]);
-    m.slot = wide(s[5]);
-    m.operation = wide(s[6]);
-    m.count = read_number(s, 7);
+    m.member = wide(s[FIELDS_AT]);
+    m.slot = wide(s[FIELDS_AT + 1]);
+    m.operation = wide(s[FIELDS_AT + 2]);
+    m.count = read_number(s, FIELDS_AT + 3);
     m
 }
 
 fn read_reply(s: &[u8], n: usize) -> Message
-    requires { ⌜ (n ≤ 12) × (5 + recordLength n + recordLength n ≤ length (now s)) ⌝ }
+    requires { ⌜ (n ≤ 12) × (recordAt + recordLength n + recordLength n ≤ length (now s)) ⌝ }
     ensures { λ r. ⌜ (let b = words (now (s .entry)) in
-        Holds r (reply (recordFrom n (from b 5)) (recordFrom n (from b (5 + recordLength n))))) ⌝ }
+        Holds r (reply (recordFrom n (from b recordAt)) (recordFrom n (from b (recordAt + recordLength n))))) ⌝ }
 {
     let newest = read_record(s, RECORD_AT, n);
     let stored = read_record(s, second_at(n), n);
@@ -52,8 +55,8 @@ fn read_reply(s: &[u8], n: usize) -> Message
 }
 
 fn read_commit(s: &[u8], n: usize) -> Message
-    requires { ⌜ (n ≤ 12) × (5 + recordLength n ≤ length (now s)) ⌝ }
-    ensures { λ r. ⌜ Holds r (commit (recordFrom n (from (words (now (s .entry))) 5))) ⌝ }
+    requires { ⌜ (n ≤ 12) × (recordAt + recordLength n ≤ length (now s)) ⌝ }
+    ensures { λ r. ⌜ Holds r (commit (recordFrom n (from (words (now (s .entry))) recordAt))) ⌝ }
 {
     let newest = read_record(s, RECORD_AT, n);
     let stored = Record::zero();
@@ -86,6 +89,6 @@ pub fn read_message(s: &[u8], n: usize) -> Message
     }
     let mut m = Message::refused(0);
     m.kind = OUTCOME;
-    m.outcome = wide(s[4]);
+    m.outcome = wide(s[FIELDS_AT]);
     m
 }

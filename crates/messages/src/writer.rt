@@ -3,11 +3,13 @@ ghost use mathlib.Core.Path.{_≡_};
 ghost use mathlib.Core.List.{[], _∷_};
 ghost use Prim.Native.Nat.{_+_, _/_, _%_, _≤_, _<_};
 ghost use lib.ListN.{length};
-ghost use Rattle.model.specs.Messages.{reply, commit, numberBytes, recordLength, encode, writeNumber, writtenTo};
+ghost use Rattle.model.specs.Messages.{reply, commit, frameLength, recordLength, submitLength, recordAt, numberBytes, encode};
+ghost use Rattle.model.specs.Messages.{writeNumber, writtenTo};
 ghost use Rattle.records.specs.Meaning.{recordIn};
 ghost use Rattle.message_bytes.specs.Needs.{InBytes};
 ghost use Rattle.messages.specs.Meaning.{Fronted, fieldsIn, messageOf};
 use crate::Message;
+use message_bytes::steps::FIELDS_AT;
 use message_bytes::steps::RECORD_AT;
 use message_bytes::steps::second_at;
 use message_bytes::steps::write_number;
@@ -16,6 +18,8 @@ use message_numbers::COMMIT;
 use message_numbers::OUTCOME;
 use message_numbers::REPLY;
 use message_numbers::SUBMIT;
+use message_numbers::steps::OUTCOME_LENGTH;
+use message_numbers::steps::SUBMIT_LENGTH;
 use message_numbers::steps::length_of;
 use records::Record;
 
@@ -32,17 +36,17 @@ fn write_heading(t: &mut [u8], size: usize, kind: u8, fifth: u8)
 }
 
 fn write_submit(t: &mut [u8], member: u32, slot: u32, operation: u32, count: u32)
-    requires { ⌜ (11 ≤ length (now t)) × ((member < 256) × ((slot < 256) × (operation < 256))) ⌝ }
+    requires { ⌜ (frameLength + submitLength ≤ length (now t)) × ((member < 256) × ((slot < 256) × (operation < 256))) ⌝ }
     ensures { λ _. ⌜ Fronted (0 ∷ 9 ∷ 1 ∷ 1 ∷ member ∷ slot ∷ operation ∷ numberBytes count) (now (t .entry)) (now (t .exit)) ⌝ }
 {
-    write_heading(t, 9, 1, member as u8);
-    t[5] = slot as u8;
-    t[6] = operation as u8;
-    write_number(t, 7, count);
+    write_heading(t, SUBMIT_LENGTH, 1, member as u8);
+    t[FIELDS_AT + 1] = slot as u8;
+    t[FIELDS_AT + 2] = operation as u8;
+    write_number(t, FIELDS_AT + 3, count);
 }
 
 fn write_commit(t: &mut [u8], n: u32, r: Record)
-    requires { ⌜ (1 ≤ n) × ((n ≤ 12) × ((5 + recordLength n ≤ length (now t)) × InBytes r)) ⌝ }
+    requires { ⌜ (1 ≤ n) × ((n ≤ 12) × ((recordAt + recordLength n ≤ length (now t)) × InBytes r)) ⌝ }
     ensures { λ _. ⌜ Fronted (encode n (commit (recordIn r))) (now (t .entry)) (now (t .exit)) ⌝ }
 {
     write_heading(t, length_of(COMMIT, n), 3, n as u8);
@@ -50,7 +54,8 @@ fn write_commit(t: &mut [u8], n: u32, r: Record)
 }
 
 fn write_reply(t: &mut [u8], n: u32, newest: Record, stored: Record)
-    requires { ⌜ (1 ≤ n) × ((n ≤ 12) × ((5 + recordLength n + recordLength n ≤ length (now t)) × (InBytes newest × InBytes stored))) ⌝ }
+    requires { ⌜ (1 ≤ n)
+        × ((n ≤ 12) × ((recordAt + recordLength n + recordLength n ≤ length (now t)) × (InBytes newest × InBytes stored))) ⌝ }
     ensures { λ _. ⌜ Fronted (encode n (reply (recordIn newest) (recordIn stored))) (now (t .entry)) (now (t .exit)) ⌝ }
 {
     let size = n as usize;
@@ -75,7 +80,7 @@ pub fn write_message(t: &mut [u8], n: u32, message: Message)
         return;
     }
     if kind == OUTCOME {
-        write_heading(t, 3, 4, message.outcome as u8);
+        write_heading(t, OUTCOME_LENGTH, 4, message.outcome as u8);
         return;
     }
     if kind == COMMIT {

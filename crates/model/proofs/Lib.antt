@@ -1,6 +1,7 @@
 pub mod Rows
 pub mod Order
 pub mod NumberClaims
+pub mod LengthClaims
 pub mod Answers
 pub mod Invariant
 pub mod InvariantMember

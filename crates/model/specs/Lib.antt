@@ -18,6 +18,7 @@ pub mod Halves
 pub mod TableCalls
 pub mod Script
 pub mod Messages
+pub mod LengthClaims
 pub mod Published
 pub mod PublishedClaims
 pub mod MemberClaims

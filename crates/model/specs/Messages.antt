@@ -28,13 +28,67 @@ kindOf (reply newest stored) = 2
 kindOf (commit r) = 3
 kindOf (outcome o) = 4
 
--- the length of what follows the length bytes, by kind and n
+-- Lengths, in bytes. Every length and every place below is put together from those of what a message holds.
+
+-- "Two bytes of length (of what follows), version byte 1, kind": the length field, and the header that it counts
+abbrev pub frameLength : ℕ
+frameLength = 2
+
+abbrev pub headerLength : ℕ
+headerLength = 2
+
+-- the n of a reply and of a commit
+abbrev pub nLength : ℕ
+nLength = 1
+
+-- a count, and each number of a value and of a matrix
+abbrev pub numberLength : ℕ
+numberLength = 4
+
+-- "A record's member, slot and type are a byte each, then count, 32 sheet bytes, matrix row by row": how many of its parts are a byte
+-- each, these and the count, the value, the matrix
+abbrev pub byteParts : ℕ
+byteParts = 3
+
+abbrev pub headLength : ℕ
+headLength = byteParts + numberLength
+
+abbrev pub valueLength : ℕ
+valueLength = 32
+
+abbrev pub matrixLength : ℕ → ℕ
+matrixLength n = numberLength * (n * n)
+
+unfoldable pub recordLength : ℕ → ℕ
+recordLength n = headLength + valueLength + matrixLength n
+
+-- The length of what follows the length field: the header, and what each kind has. "Kind 1 submit: member, slot, type (a byte each), count
+-- .. Kind 2 reply: n, newest record, stored record .. Kind 3 commit: n, record .. Kind 4 outcome: one byte"
+abbrev pub submitLength : ℕ
+submitLength = headerLength + (3 + numberLength)
+
+abbrev pub replyLength : ℕ → ℕ
+replyLength n = headerLength + (nLength + (recordLength n + recordLength n))
+
+abbrev pub commitLength : ℕ → ℕ
+commitLength n = headerLength + (nLength + recordLength n)
+
+abbrev pub outcomeLength : ℕ
+outcomeLength = headerLength + 1
+
 unfoldable pub lengthOf : ℕ → ℕ → ℕ
 lengthOf kind n =
-    cond (eqb kind 1) 9
-    (cond (eqb kind 2) (81 + 8 * (n * n))
-    (cond (eqb kind 3) (42 + 4 * (n * n))
-    3))
+    cond (eqb kind 1) submitLength
+    (cond (eqb kind 2) (replyLength n)
+    (cond (eqb kind 3) (commitLength n)
+    outcomeLength))
+
+-- where the fields of a message begin, and the record of a commit, which is the first of a reply
+abbrev pub fieldsAt : ℕ
+fieldsAt = frameLength + headerLength
+
+abbrev pub recordAt : ℕ
+recordAt = fieldsAt + nLength
 
 -- Numbers of four bytes, big-endian.
 
@@ -51,22 +105,18 @@ byteIn w i = words (numberBytes (w (i / 4))) (i % 4)
 unfoldable pub numberIn : (ℕ → ℕ) → ℕ → ℕ
 numberIn b i = numberOf (from b (i * 4))
 
--- Records. "A record's member, slot and type are a byte each, then count, 32 sheet bytes, matrix row by row": the words of a record as
--- they stand in the table, the first three in a byte each and the others in four.
+-- Records: the words of a record as they stand in the table, the first three in a byte each and the others in four.
 
--- f's first three values, then g's
+-- f's values for the parts that are a byte each, then g's
 unfoldable pub headed : (ℕ → ℕ) → (ℕ → ℕ) → ℕ → ℕ
-headed f g i = cond (ltb i 3) (f i) (g (i - 3))
+headed f g i = cond (ltb i byteParts) (f i) (g (i - byteParts))
 
 -- byte i of the record's words w, and word i in the record's bytes b
 unfoldable pub recordByte : (ℕ → ℕ) → ℕ → ℕ
-recordByte w = headed w (byteIn (from w 3))
+recordByte w = headed w (byteIn (from w byteParts))
 
 unfoldable pub recordWord : (ℕ → ℕ) → ℕ → ℕ
-recordWord b = headed b (numberIn (from b 3))
-
-unfoldable pub recordLength : ℕ → ℕ
-recordLength n = 39 + 4 * (n * n)
+recordWord b = headed b (numberIn (from b byteParts))
 
 unfoldable pub recordBytes : ℕ → Rec → List ℕ
 recordBytes n r = tabulate (recordLength n) (recordByte (words (recordWords n r)))
@@ -93,10 +143,10 @@ encode n m = framed (1 ∷ kindOf m ∷ fieldBytes n m)
 -- the message in the bytes b, by the kind that stands there
 unfoldable pub messageFrom : ℕ → (ℕ → ℕ) → Message
 messageFrom n b =
-    cond (eqb (b 3) 1) (submit (b 4) (b 5) (b 6) (numberOf (from b 7)))
-    (cond (eqb (b 3) 2) (reply (recordFrom n (from b 5)) (recordFrom n (from b (5 + recordLength n))))
-    (cond (eqb (b 3) 3) (commit (recordFrom n (from b 5)))
-    (outcome (b 4))))
+    cond (eqb (b 3) 1) (submit (b fieldsAt) (b (fieldsAt + 1)) (b (fieldsAt + 2)) (numberOf (from b (fieldsAt + 3))))
+    (cond (eqb (b 3) 2) (reply (recordFrom n (from b recordAt)) (recordFrom n (from b (recordAt + recordLength n))))
+    (cond (eqb (b 3) 3) (commit (recordFrom n (from b recordAt)))
+    (outcome (b fieldsAt))))
 
 -- "15 .. member or slot not 1 to n, type, outcome": no count and no matrix is refused, and number 7 is not asked
 unfoldable pub fitMessage : ℕ → Message → Bool
@@ -107,7 +157,7 @@ fitMessage n (outcome o) = inside 2 o
 
 -- "15 .. wrong n": a reply and a commit name it
 unfoldable pub rightN : ℕ → (ℕ → ℕ) → Bool
-rightN n b = not (eqb (b 3) 2 || eqb (b 3) 3) || eqb (b 4) n
+rightN n b = not (eqb (b 3) 2 || eqb (b 3) 3) || eqb (b fieldsAt) n
 
 -- The reader's number, and the check's: "1 n not 1 to 12", "12 under 4 bytes, or length field not the rest; 13 version; 14 kind not 1
 -- to 4; 15 wrong length for kind, wrong n, member or slot not 1 to n, type, outcome".

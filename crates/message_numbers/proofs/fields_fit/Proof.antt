@@ -8,7 +8,7 @@ use lib.ListN.{length}
 use Rattle.lists.specs.Functions.{inside}
 use Rattle.lists.specs.Parts.{words}
 use Rattle.lists.proofs.Functions.{inside-low, inside-high}
-use Rattle.model.specs.Messages.{lengthOf, recordLength}
+use Rattle.model.specs.Messages.{recordLength, lengthOf, fieldsAt, recordAt}
 use Rattle.laws.proofs.Messages.{lengthOf-least, sized, fitAt, judged, judged-submit}
 use Rattle.laws.proofs.Messages.{judged-outcome, judged-commit, judged-reply, judged-misnamed}
 use Rattle.laws.proofs.Tests.{refused, allowed}
@@ -49,7 +49,7 @@ below c =
     let some-kind = inside-high 4 (bytes (start k) 3) (start k .pre .1 .1 .0) in
     omega (arith, k .wide .ensures, c .if2 .left)
 
-named : (c : tie.Else3) → let s = start (kind (c .before .before)) in bytes s 4 ≡ s .args .n
+named : (c : tie.Else3) → let s = start (kind (c .before .before)) in bytes s fieldsAt ≡ s .args .n
 named c = sym (c .before .before .wide2 .ensures) ∙ c .if3 .left
 
 -- a reply
@@ -58,8 +58,8 @@ reply c =
     let other = c .before .before in
     omega (arith, kind (other .before) .wide .ensures, above other, below other, c .if4 .left)
 
-judged-two : (c : tie.Else4) → let s = start (kind (c .before .before .before)) in
-    judged (s .args .n) (bytes s) ≡ (fitAt (s .args .n) (bytes s) 5 && fitAt (s .args .n) (bytes s) (5 + recordLength (s .args .n)))
+judged-two : (c : tie.Else4) → let s = start (kind (c .before .before .before)) in let n = s .args .n in
+    judged n (bytes s) ≡ (fitAt n (bytes s) recordAt && fitAt n (bytes s) (recordAt + recordLength n))
 judged-two c = judged-reply _ _ (is (kind (c .before .before .before)) 2 (reply c)) (named (c .before))
 
 -- The needs.

@@ -1,19 +1,14 @@
--- `second_at` meets its contract: n * n is at most 144, so every part of the sum fits, and the sum is 5 and a record's length.
+-- `second_at` meets its contract: a record is short, so the sum fits.
 use borrow.Author.Needs.{needs}
-use Prim.Native.Nat.{_*_, _≤_}
 use native.Mathlib.Omega.{arith}
-use Rattle.model.specs.Messages.{recordLength}
-use Rattle.laws.proofs.Records.{square-small}
+use Rattle.laws.proofs.Messages.{recordLength-most}
 use Rattle.message_bytes.proofs.steps.second_at.Statement.{statement}
 use Rattle.message_bytes.proofs.steps.second_at.Tie as tie
 
-small : (c : tie.Start) → c .args .n * c .args .n ≤ 144
-small c = square-small (c .args .n) (c .pre)
-
 pub second-at-spec : {M : Type 1} → statement M
-unfolding recordLength
 second-at-spec =
     tie.close
     (tie.spec
-    (λ c. search needs) (λ c. record { fits = omega (arith, small c) }) (λ c. record { fits = omega (arith, small c) })
-    (λ c. record { fits = omega (arith, small c) }) (λ c. omega arith))
+    (λ c κs. search needs)
+    (λ c. let s = c .before in record { fits = omega (arith, c .record-length .ensures, recordLength-most (s .args .n) (s .pre)) })
+    (λ c. search needs))

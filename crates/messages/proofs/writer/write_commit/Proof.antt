@@ -2,7 +2,7 @@
 use borrow.Author.Needs.{needs}
 use mathlib.Core.Path.{refl, sym, _∙_}
 use native.Mathlib.Omega.{arith}
-use Rattle.model.specs.Messages.{lengthOf}
+use Rattle.model.specs.Messages.{lengthOf, recordAt}
 use Rattle.laws.proofs.Messages.{lengthOf-most, heading, commit-parts}
 use Rattle.records.specs.Meaning.{recordIn}
 use Rattle.messages.proofs.Laws.{fronted-same, headed, fronted-record}
@@ -39,7 +39,7 @@ returns c =
     let l = h .write-heading .last .0 in
     let front = headed 3 (a .n) (a .t .now) l (h .before .length-of .ensures) (h .write-heading .ensures) in
     fronted-same (a .t .now) (w .write-record .last .0) (sym (commit-parts (a .n) (recordIn (a .r))))
-    (fronted-record (a .n) (heading (lengthOf 3 (a .n)) 3 (a .n)) (recordIn (a .r)) (a .t .now) l (w .write-record .last .0) 5 refl
+    (fronted-record (a .n) (heading (lengthOf 3 (a .n)) 3 (a .n)) (recordIn (a .r)) (a .t .now) l (w .write-record .last .0) recordAt refl
     front (w .write-record .ensures))
 
 pub write-commit-spec : {M : Type 1} → statement M

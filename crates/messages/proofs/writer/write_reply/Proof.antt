@@ -5,7 +5,7 @@ use mathlib.Core.Path.{_≡_, refl, sym, _∙_}
 use mathlib.Core.List.{_++_}
 use native.Mathlib.Omega.{arith}
 use lib.ListN.{length}
-use Rattle.model.specs.Messages.{lengthOf, recordBytes}
+use Rattle.model.specs.Messages.{lengthOf, recordAt, recordBytes}
 use Rattle.laws.proofs.Messages.{lengthOf-most, length-recordBytes, heading, reply-parts}
 use Rattle.records.specs.Meaning.{recordIn}
 use Rattle.messages.specs.Meaning.{Fronted}
@@ -34,8 +34,8 @@ front-first c =
     let a = start (h .before) .args in
     let l = h .write-heading .last .0 in
     let front = headed 2 (a .n) (a .t .now) l (h .before .length-of .ensures) (h .write-heading .ensures) in
-    fronted-record (a .n) (heading (lengthOf 2 (a .n)) 2 (a .n)) (recordIn (a .newest)) (a .t .now) l (c .write-record .last .0) 5 refl
-    front (c .write-record .ensures)
+    fronted-record (a .n) (heading (lengthOf 2 (a .n)) 2 (a .n)) (recordIn (a .newest)) (a .t .now) l (c .write-record .last .0)
+    recordAt refl front (c .write-record .ensures)
 
 abbrev first : tie.After-write-record-arg2 → tie.After-write-record
 first c = c .before .before .before

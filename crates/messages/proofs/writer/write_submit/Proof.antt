@@ -47,6 +47,6 @@ pub write-submit-spec : {M : Type 1} → statement M
 write-submit-spec =
     tie.close
     (tie.spec
-    (λ c. search needs) (λ c κs. search needs) (λ c. search needs) (λ c. omega (arith, long c)) (λ c. search needs)
-    (λ c. simp length-set (omega (arith, long c))) (λ c κs. simp length-set (omega (arith, long (c .before))))
-    same-length returns)
+    (λ c. search needs) (λ c κs. search needs) (λ c. search needs) (λ c. search needs) (λ c. omega (arith, long c))
+    (λ c. search needs) (λ c. search needs) (λ c. simp length-set (omega (arith, long c))) (λ c. search needs)
+    (λ c κs. simp length-set (omega (arith, long (c .before)))) same-length returns)
