@@ -62,8 +62,11 @@ else2 c = c .before .before .before
 abbrev start3 : tie.Else3 → tie.Start
 start3 c = start1 (else2 (c .before) .before)
 
+counted : (c : tie.Else3) → let l = start3 c .args .s .now in words l 0 * 256 + words l 1 ≡ length l - 2
+counted c = sym (c .before .length-field .ensures) ∙ c .if3 .left
+
 past3 : (c : tie.Else3) → Left version (start3 c)
-past3 c = past2 (else2 (c .before)) ∙ rw (eq-eqb _ _ (sym (c .before .length-field .ensures) ∙ c .if3 .left))
+past3 c = past2 (else2 (c .before)) ∙ rw (eq-eqb _ _ (counted c))
 
 abbrev else3 : tie.After-wide → tie.Else3
 else3 c = c .before .before

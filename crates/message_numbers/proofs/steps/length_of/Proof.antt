@@ -20,10 +20,14 @@ short : (c : tie.After-record-length) → c .record-length .result ≤ 615
 short c = omega (arith, c .record-length .ensures, recordLength-most (start c .args .n) (start c .pre .1 .1 .1))
 
 -- the kind that is left
+third : (k : ℕ) → 1 ≤ k → k ≤ 4 → (k ≡ 1 → ⊥) → (k ≡ 4 → ⊥) → (k ≡ 2 → ⊥) → k ≡ 3
+third k low high p q r = omega arith
+
 commit : (c : tie.Else3) → start (c .before) .args .kind ≡ 3
 commit c =
     let else2 = c .before .before in
-    omega (arith, start (c .before) .pre, else2 .before .if1 .left, else2 .if2 .left, c .if3 .left)
+    let s = start (c .before) in
+    third (s .args .kind) (s .pre .0) (s .pre .1 .0) (else2 .before .if1 .left) (else2 .if2 .left) (c .if3 .left)
 
 -- The needs.
 
