@@ -44,10 +44,10 @@ program() {
 
 # The message check of a revision, under another name, beside the one that stands here.
 earlier() {
-    mkdir "$out/earlier"
-    git archive "$1" | tar -x -C "$out/earlier"
-    archive messages "$out/earlier"
-    objcopy --redefine-sym concur_message_check=earlier_message_check "$out/earlier/target/staticlib/libmessages.a" "$out/libearlier.a"
+    mkdir "$out/revision"
+    git archive "$1" | tar -x -C "$out/revision"
+    archive messages "$out/revision"
+    objcopy --redefine-sym concur_message_check=earlier_message_check "$out/revision/target/staticlib/libmessages.a" "$out/libearlier.a"
     archive messages
     timed earlier "$out/libearlier.a" target/staticlib/libmessages.a
 }

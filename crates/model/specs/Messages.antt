@@ -30,10 +30,11 @@ kindOf (outcome o) = 4
 
 -- Lengths, in bytes. Every length and every place below is put together from those of what a message holds.
 
--- "Two bytes of length (of what follows), version byte 1, kind": the length field, and the header that it counts
+-- "Two bytes of length (of what follows)"
 abbrev pub frameLength : ℕ
 frameLength = 2
 
+-- "version byte 1, kind"
 abbrev pub headerLength : ℕ
 headerLength = 2
 
@@ -45,34 +46,40 @@ nLength = 1
 abbrev pub numberLength : ℕ
 numberLength = 4
 
--- "A record's member, slot and type are a byte each, then count, 32 sheet bytes, matrix row by row": how many of its parts are a byte
--- each, these and the count, the value, the matrix
+-- "A record's member, slot and type are a byte each": so many of its parts are
 abbrev pub byteParts : ℕ
 byteParts = 3
 
+-- "then count"
 abbrev pub headLength : ℕ
 headLength = byteParts + numberLength
 
+-- "32 sheet bytes"
 abbrev pub valueLength : ℕ
 valueLength = 32
 
+-- "matrix row by row"
 abbrev pub matrixLength : ℕ → ℕ
 matrixLength n = numberLength * (n * n)
 
 unfoldable pub recordLength : ℕ → ℕ
 recordLength n = headLength + valueLength + matrixLength n
 
--- The length of what follows the length field: the header, and what each kind has. "Kind 1 submit: member, slot, type (a byte each), count
--- .. Kind 2 reply: n, newest record, stored record .. Kind 3 commit: n, record .. Kind 4 outcome: one byte"
+-- What the length field says, by the kind: the header and the kind's fields.
+
+-- "Kind 1 submit: member, slot, type (a byte each), count"
 abbrev pub submitLength : ℕ
 submitLength = headerLength + (3 + numberLength)
 
+-- "Kind 2 reply: n, newest record, stored record"
 abbrev pub replyLength : ℕ → ℕ
 replyLength n = headerLength + (nLength + (recordLength n + recordLength n))
 
+-- "Kind 3 commit: n, record"
 abbrev pub commitLength : ℕ → ℕ
 commitLength n = headerLength + (nLength + recordLength n)
 
+-- "Kind 4 outcome: one byte"
 abbrev pub outcomeLength : ℕ
 outcomeLength = headerLength + 1
 
@@ -83,7 +90,7 @@ lengthOf kind n =
     (cond (eqb kind 3) (commitLength n)
     outcomeLength))
 
--- where the fields of a message begin, and the record of a commit, which is the first of a reply
+-- where the fields of a message begin, and where the record of a commit does, or the first of a reply
 abbrev pub fieldsAt : ℕ
 fieldsAt = frameLength + headerLength
 
