@@ -1,3 +1,3 @@
-// Numbers and records in the bytes of a message.
+// The bytes of a message: how long its parts are, where they stand, and numbers and records in them.
 
 pub mod steps;

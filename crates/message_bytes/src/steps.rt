@@ -1,4 +1,4 @@
-// Numbers and records in a message's bytes, big-endian. Each function asks what its callers prove.
+// Where a message's parts stand in its bytes, and numbers and records there, big-endian. Each function asks what its callers prove.
 ghost use mathlib.Core.Path.{_≡_};
 ghost use Prim.Native.Nat.{_+_, _*_, _≤_};
 ghost use lib.ListN.{length};
@@ -44,7 +44,7 @@ pub const FIELDS_AT: usize = FRAME_LENGTH + HEADER_LENGTH;
 
 pub const RECORD_AT: usize = FIELDS_AT + N_LENGTH;
 
-// A whole record.
+// The length of a record.
 pub fn record_length(n: usize) -> usize
     requires { ⌜ n ≤ 12 ⌝ }
     ensures { λ r. ⌜ r ≡ recordLength n ⌝ }
