@@ -7,7 +7,7 @@ mod timing;
 
 use samples::each_message;
 use std::hint::black_box;
-use timing::{best, round};
+use timing::{best, round, used};
 
 extern "C" {
     fn earlier_message_check(bytes: *const u8, length: usize, n: u32) -> u32;
@@ -32,11 +32,6 @@ fn same(bytes: &[u8], n: u32) {
     let answer = plain(bytes, n);
     assert_eq!(earlier(bytes, n), answer);
     assert_eq!(now(bytes, n), answer);
-}
-
-// Keeps the compiler from leaving a call out.
-fn used(answer: u32) {
-    black_box(answer);
 }
 
 fn time(what: &str, bytes: &[u8], n: u32) {

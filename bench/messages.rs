@@ -6,7 +6,7 @@ mod timing;
 use plain_messages as plain;
 use samples::each_message;
 use std::hint::black_box;
-use timing::{compare, heading};
+use timing::{compare, heading, used};
 
 // A reading answers the sum of two counts. Both readers stand as functions of their own in the program, so the whole message is made.
 mod ours {
@@ -69,11 +69,6 @@ fn same(bytes: &[u8], n: u32) {
         assert_eq!(our_write(bytes, n, &mut a, 1), plain_write(bytes, n, &mut b, 1));
         assert_eq!(a, b);
     }
-}
-
-// Keeps the compiler from leaving a call out.
-fn used(answer: u32) {
-    black_box(answer);
 }
 
 type Writer = fn(&[u8], u32, &mut [u8], u32) -> u32;

@@ -1,4 +1,5 @@
 // Timing several ways of doing the same thing against each other.
+use std::hint::black_box;
 use std::time::Instant;
 
 const ROUNDS: usize = 60;
@@ -25,6 +26,12 @@ impl Pair {
 
 pub fn heading() {
     println!("{:<28} {:>9} {:>9} {:>8}", "nanoseconds of a call", "ours", "plain", "ratio");
+}
+
+/// Keeps the compiler from leaving a call out.
+#[allow(dead_code)]
+pub fn used(answer: u32) {
+    black_box(answer);
 }
 
 /// So many calls, and the nanoseconds that they took.

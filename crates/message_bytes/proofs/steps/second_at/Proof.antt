@@ -11,4 +11,4 @@ second-at-spec =
     (tie.spec
     (λ c κs. search needs)
     (λ c. let s = c .before in record { fits = omega (arith, c .record-length .ensures, recordLength-most (s .args .n) (s .pre)) })
-    (λ c. search needs))
+    (λ c. omega arith))
