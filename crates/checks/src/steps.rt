@@ -21,14 +21,14 @@ fn not_above(skipped: bool, a: u32, b: u32) -> bool
     a <= b
 }
 
-// Are the rows comparable? Where they are skipped, they pass.
+// Are the rows comparable, not crossed? Where they are skipped, they pass.
 fn in_order(skipped: bool, a: Row, b: Row, n: usize) -> bool
     ensures { λ r. ⌜ r ≡ (skipped || comparableOf (min n 12) (rowIn a) (rowIn b)) ⌝ }
 {
     if skipped {
         return true;
     }
-    a.comparable(b, n)
+    !a.compare(b, n).crossed()
 }
 
 // 22: in the slot's row, no other member's known count exceeds the newest record's.

@@ -1,4 +1,5 @@
 pub mod Rows
+pub mod RowClaims
 pub mod Order
 pub mod NumberClaims
 pub mod LengthClaims

@@ -1,4 +1,5 @@
 pub mod Rows
+pub mod RowClaims
 pub mod Records
 pub mod Kinds
 pub mod Numbers

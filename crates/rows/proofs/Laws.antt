@@ -2,16 +2,16 @@
 use Prim.Native.Nat.{ℕ, _+_, _≤_, _<_}
 use mathlib.Core.Path.{_≡_, sym, ap, _∙_}
 use mathlib.Core.List.{List}
-use mathlib.Core.Bool.{true, false}
+use mathlib.Core.Bool.{Bool, true, false, not, _&&_}
 use lib.Dec.{leb}
-use borrow.Author.Tests.{le-leb, lt-leb}
 use native.Mathlib.Omega.{arith}
 use lib.ListN.{length, getD, set, replicate}
 use Rattle.lists.specs.Functions.{put, pasted, numbered, each}
 use Rattle.lists.specs.Parts.{words}
-use Rattle.lists.proofs.Functions.{numbered-at, numbered-put, numbered-padded, numbered-blank, each-more, each-fails}
+use Rattle.lists.proofs.Functions.{numbered-at, numbered-put, numbered-padded, numbered-blank, each-step, each-more, each-fails}
 use Rattle.lists.proofs.Parts.{seen, seen-replicate, words-set, words-zeros}
-use Rattle.model.specs.Rows.{Row as RowOf, zeroRow, zeroMatrix, below, matrixBelow}
+use Rattle.model.specs.Rows.{Row as RowOf, zeroRow, zeroMatrix, below, comparable, matrixBelow, Comparison, compared, equalOrBelow, crossed}
+use Rattle.model.proofs.RowClaims.{byTests, compared-tests, below-compared, comparable-compared}
 use Rattle.model.specs.RecordWords.{rowOf}
 use Rattle.rows.specs.declared.Row.{Row}
 use Rattle.rows.specs.Meaning.{rowIn, matrixIn, noRow}
@@ -36,19 +36,25 @@ count-set r s i v h g e =
 
 -- Comparison entry by entry, by the counts as the arrays hold them.
 
-pub below-more : (a b : Row) (i : ℕ) → i < 12 → below i (rowIn a) (rowIn b) ≡ true → words (a .counts) i ≤ words (b .counts) i
-    → below (i + 1) (rowIn a) (rowIn b) ≡ true
+-- a flag over the first i entries, and one entry more
+pub flag-more : (a b : Row) (i : ℕ) → i < 12 → {f : Bool} → f ≡ below i (rowIn a) (rowIn b)
+    → (f && leb (words (a .counts) i) (words (b .counts) i)) ≡ below (i + 1) (rowIn a) (rowIn b)
 unfolding below
-below-more a b i h p q =
-    each-more i (λ k. leb (rowIn a k) (rowIn b k)) p
-    (rw (count-at a i h, count-at b i h) (le-leb (words (a .counts) i) (words (b .counts) i) q))
+flag-more a b i h e = rw (e, each-step i (λ k. leb (rowIn a k) (rowIn b k)), count-at a i h, count-at b i h)
 
-pub below-fails : (a b : Row) (n i : ℕ) → n ≤ 12 → i < n → words (b .counts) i < words (a .counts) i → below n (rowIn a) (rowIn b) ≡ false
-unfolding below
-below-fails a b n i h p q =
-    let g : i < 12 = omega arith in
-    each-fails n (λ k. leb (rowIn a k) (rowIn b k)) (i + 1) (omega arith) (omega arith)
-    (rw (count-at a i g, count-at b i g) (lt-leb (words (a .counts) i) (words (b .counts) i) q))
+-- the answer by the two flags over all n entries
+pub flags-decide : (n i : ℕ) (a b : Row) → i ≡ n → {f g p q : Bool} → f ≡ below i (rowIn a) (rowIn b) → g ≡ below i (rowIn b) (rowIn a)
+    → f ≡ p → g ≡ q → compared n (rowIn a) (rowIn b) ≡ byTests p q
+flags-decide n i a b h d e s t = rw (sym s, sym t, d, e, h) (compared-tests n (rowIn a) (rowIn b))
+
+-- The words of the paper, by the answer that is at hand.
+
+module _ (n : ℕ) (a b : Row) {d : Comparison} {t : Bool} where
+  pub answer-below : d ≡ compared n (rowIn a) (rowIn b) → t ≡ equalOrBelow d → t ≡ below n (rowIn a) (rowIn b)
+  answer-below e h = h ∙ ap equalOrBelow e ∙ sym (below-compared n (rowIn a) (rowIn b))
+
+  pub answer-comparable : d ≡ compared n (rowIn a) (rowIn b) → t ≡ crossed d → not t ≡ comparable n (rowIn a) (rowIn b)
+  answer-comparable e h = ap not (h ∙ ap crossed e) ∙ sym (comparable-compared n (rowIn a) (rowIn b))
 
 -- Matrices row by row.
 

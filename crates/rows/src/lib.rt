@@ -1,12 +1,46 @@
 // Timestamp rows and matrices by value: one entry replaced, and comparison over the first n entries.
 ghost use mathlib.Core.Path.{_≡_};
 ghost use Prim.Native.Nat.{min};
-ghost use Rattle.model.specs.Rows.{below as belowOf, comparable as comparableOf, larger as largerOf, matrixBelow, withCount, zeroRow};
-ghost use Rattle.rows.specs.Meaning.{rowIn, matrixIn};
+ghost use Rattle.model.specs.Rows.{compared, crossed, equalOrBelow, larger as largerOf, matrixBelow, withCount, zeroRow};
+ghost use Rattle.rows.specs.Meaning.{rowIn, matrixIn, comparisonIn};
 
 // A row of a working copy: a count for each of twelve members, the unused ones zero.
 pub struct Row {
     pub counts: [u32; 12],
+}
+
+// How one row stands to another: below and above are for rows that are not equal.
+pub enum Comparison {
+    Equal,
+    Below,
+    Above,
+    Crossed,
+}
+
+impl Comparison {
+    // What check 25 asks, and what decides which row is the larger.
+    pub fn equal_or_below(self) -> bool
+        ensures { λ r. ⌜ r ≡ equalOrBelow (comparisonIn self) ⌝ }
+    {
+        match self {
+            Comparison::Equal => true,
+            Comparison::Below => true,
+            Comparison::Above => false,
+            Comparison::Crossed => false,
+        }
+    }
+
+    // What check 26 asks.
+    pub fn crossed(self) -> bool
+        ensures { λ r. ⌜ r ≡ crossed (comparisonIn self) ⌝ }
+    {
+        match self {
+            Comparison::Equal => false,
+            Comparison::Below => false,
+            Comparison::Above => false,
+            Comparison::Crossed => true,
+        }
+    }
 }
 
 // The number of entries that a comparison looks at: more than twelve count as twelve.
@@ -41,33 +75,45 @@ impl Row {
         self
     }
 
-    // Is no entry above the other row's?
-    pub fn below(self, other: Row, n: usize) -> bool
-        ensures { λ r. ⌜ r ≡ belowOf (min n 12) (rowIn self) (rowIn other) ⌝ }
+    // How this row stands to the other. All n entries are looked at, and two flags decide at the end.
+    pub fn compare(self, other: Row, n: usize) -> Comparison
+        ensures { λ r. ⌜ comparisonIn r ≡ compared (min n 12) (rowIn self) (rowIn other) ⌝ }
     {
         let last = entries(n);
+        let mut below = true;
+        let mut above = true;
         let mut i = 0;
         while i < last {
-            if other.counts[i] < self.counts[i] {
-                return false;
-            }
+            let a = self.counts[i];
+            let b = other.counts[i];
+            below = below & (a <= b);
+            above = above & (b <= a);
             i += 1;
         }
-        true
+        if below {
+            if above {
+                Comparison::Equal
+            } else {
+                Comparison::Below
+            }
+        } else {
+            if above {
+                Comparison::Above
+            } else {
+                Comparison::Crossed
+            }
+        }
     }
 
-    // Is one of the two below the other?
-    pub fn comparable(self, other: Row, n: usize) -> bool
-        ensures { λ r. ⌜ r ≡ comparableOf (min n 12) (rowIn self) (rowIn other) ⌝ }
-    {
-        self.below(other, n) || other.below(self, n)
-    }
-
-    // The larger of two comparable rows: the other one if this is below it, else this.
+    // The larger of two rows that are not crossed: the other one where this is equal or below, else this.
     pub fn larger(self, other: Row, n: usize) -> Row
         ensures { λ r. ⌜ rowIn r ≡ largerOf (min n 12) (rowIn self) (rowIn other) ⌝ }
     {
-        if self.below(other, n) { other } else { self }
+        if self.compare(other, n).equal_or_below() {
+            other
+        } else {
+            self
+        }
     }
 }
 
@@ -78,7 +124,7 @@ pub fn matrix_below(a: [Row; 12], b: [Row; 12], n: usize) -> bool
     let last = entries(n);
     let mut j = 0;
     while j < last {
-        if !a[j].below(b[j], n) {
+        if !a[j].compare(b[j], n).equal_or_below() {
             return false;
         }
         j += 1;
