@@ -1,6 +1,6 @@
 #!/usr/bin/env bash
 # Builds the proved archives and the timing programs, and runs them once: bench/run.sh [REVISION]
-# With a revision, that revision's message check is timed beside the one that stands here, and nothing else.
+# With a revision, that revision's message check and deliver are timed beside the ones that stand here, and nothing else.
 set -eu
 cd "$(dirname "$0")/.."
 out=$(mktemp -d)
@@ -42,18 +42,20 @@ program() {
     done
 }
 
-# The message check of a revision, under another name, beside the one that stands here.
+# earlier CRATE PROGRAM: bench/PROGRAM.rs with the crate's archive here and, each of its functions under another name, the revision's.
 earlier() {
-    mkdir "$out/revision"
-    git archive "$1" | tar -x -C "$out/revision"
-    archive messages "$out/revision"
-    objcopy --redefine-sym concur_message_check=earlier_message_check "$out/revision/target/staticlib/libmessages.a" "$out/libearlier.a"
-    archive messages
-    timed earlier "$out/libearlier.a" target/staticlib/libmessages.a
+    archive "$1" "$out/revision"
+    nm --defined-only -g "$out/revision/target/staticlib/lib$1.a" | awk '$2 == "T" { print $3, "earlier_" $3 }' >"$out/names"
+    objcopy --redefine-syms="$out/names" "$out/revision/target/staticlib/lib$1.a" "$out/libearlier_$1.a"
+    archive "$1"
+    timed "$2" "$out/libearlier_$1.a" "target/staticlib/lib$1.a"
 }
 
 if [ $# -gt 0 ]; then
-    earlier "$1"
+    mkdir "$out/revision"
+    git archive "$1" | tar -x -C "$out/revision"
+    earlier messages earlier_check
+    earlier board earlier_deliver
     exit
 fi
 archive messages

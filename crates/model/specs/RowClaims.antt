@@ -1,9 +1,11 @@
--- What is claimed of the comparison of two rows (Rows.antt): document 02, (d), "each exactly when it is so". Here are only the entries 1 to n
--- of the two rows, and what holds of them.
+-- What is claimed of the comparison of two rows (Rows.antt), document 02, (d): when each answer is so, by the entries 1 to n alone; and that
+-- the words of the paper can be told by the answer.
 use Prim.Native.Nat.{ℕ, _≤_}
 use mathlib.Core.Path.{_≡_}
+use mathlib.Core.Bool.{cond, not}
 use mathlib.Core.Logic.{_↔_}
-use Rattle.model.specs.Rows.{Row, Comparison, isEqual, isBelow, isAbove, isCrossed, compared}
+use Rattle.model.specs.Rows.{Row, below, comparable, larger}
+use Rattle.model.specs.Rows.{Comparison, isEqual, isBelow, isAbove, isCrossed, compared, equalOrBelow, crossed}
 
 -- every entry equals its fellow
 abbrev pub EachEqual : ℕ → Row → Row → Type 0
@@ -20,6 +22,10 @@ IsSo n a b isBelow = NoneExceeds n a b × (EachEqual n a b → ⊥)
 IsSo n a b isAbove = NoneExceeds n b a × (EachEqual n a b → ⊥)
 IsSo n a b isCrossed = (NoneExceeds n a b → ⊥) × (NoneExceeds n b a → ⊥)
 
--- of any two rows, for every n
-abbrev pub ComparedExactly : Type 0
-ComparedExactly = (n : ℕ) (a b : Row) (answer : Comparison) → (compared n a b ≡ answer) ↔ IsSo n a b answer
+pub record RowsCompared (n : ℕ) (a b : Row) : Type 0 where
+  -- "each exactly when it is so"
+  pub exactly : (answer : Comparison) → (compared n a b ≡ answer) ↔ IsSo n a b answer
+  -- "Checks 25 and 26 and the building of a matrix use the new answer. Every halt and every matrix is unchanged."
+  pub for25 : below n a b ≡ equalOrBelow (compared n a b)
+  pub for26 : comparable n a b ≡ not (crossed (compared n a b))
+  pub forMatrix : larger n a b ≡ cond (equalOrBelow (compared n a b)) b a

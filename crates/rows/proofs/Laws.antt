@@ -1,17 +1,18 @@
 -- What is said once of rows and matrices by value.
 use Prim.Native.Nat.{ℕ, _+_, _≤_, _<_}
-use mathlib.Core.Path.{_≡_, sym, ap, _∙_}
+use mathlib.Core.Path.{_≡_, refl, sym, ap, _∙_}
 use mathlib.Core.List.{List}
-use mathlib.Core.Bool.{Bool, true, false, not, _&&_}
-use lib.Dec.{leb}
+use mathlib.Core.Bool.{Bool, true, false, not, _&&_, _||_}
+use lib.Dec.{leb, ltb}
+use borrow.Author.Tests.{leb-true, leb-false, lt-ltb, le-ltb}
 use native.Mathlib.Omega.{arith}
 use lib.ListN.{length, getD, set, replicate}
 use Rattle.lists.specs.Functions.{put, pasted, numbered, each}
 use Rattle.lists.specs.Parts.{words}
-use Rattle.lists.proofs.Functions.{numbered-at, numbered-put, numbered-padded, numbered-blank, each-step, each-more, each-fails}
+use Rattle.lists.proofs.Functions.{on, numbered-at, numbered-put, numbered-padded, numbered-blank, each-step, each-more, each-fails}
 use Rattle.lists.proofs.Parts.{seen, seen-replicate, words-set, words-zeros}
 use Rattle.model.specs.Rows.{Row as RowOf, zeroRow, zeroMatrix, below, comparable, matrixBelow, Comparison, compared, equalOrBelow, crossed}
-use Rattle.model.proofs.RowClaims.{byTests, compared-tests, below-compared, comparable-compared}
+use Rattle.model.proofs.RowClaims.{byFlags, compared-flags, rows-compared}
 use Rattle.model.specs.RecordWords.{rowOf}
 use Rattle.rows.specs.declared.Row.{Row}
 use Rattle.rows.specs.Meaning.{rowIn, matrixIn, noRow}
@@ -36,25 +37,33 @@ count-set r s i v h g e =
 
 -- Comparison entry by entry, by the counts as the arrays hold them.
 
--- a flag over the first i entries, and one entry more
-pub flag-more : (a b : Row) (i : ℕ) → i < 12 → {f : Bool} → f ≡ below i (rowIn a) (rowIn b)
-    → (f && leb (words (a .counts) i) (words (b .counts) i)) ≡ below (i + 1) (rowIn a) (rowIn b)
+-- some entry so far or this one exceeds: not all so far and this one are at most their fellows
+exceeding : (p : Bool) (x y : ℕ) → (not p || ltb y x) ≡ not (p && leb x y)
+exceeding false x y = refl
+exceeding true x y = on (leb x y)
+    (λ p. rw (p, le-ltb y x (leb-true x y p))) (λ p. rw (p, lt-ltb y x (leb-false x y p)))
+
+-- a flag says whether an entry of a exceeds its fellow in b; one entry more
+pub flag-more : (a b : Row) (i : ℕ) → i < 12 → {f : Bool} → f ≡ not (below i (rowIn a) (rowIn b))
+    → (f || ltb (words (b .counts) i) (words (a .counts) i)) ≡ not (below (i + 1) (rowIn a) (rowIn b))
 unfolding below
-flag-more a b i h e = rw (e, each-step i (λ k. leb (rowIn a k) (rowIn b k)), count-at a i h, count-at b i h)
+flag-more a b i h e =
+    rw (e, each-step i (λ k. leb (rowIn a k) (rowIn b k)), count-at a i h, count-at b i h)
+    (exceeding (below i (rowIn a) (rowIn b)) (words (a .counts) i) (words (b .counts) i))
 
 -- the answer by the two flags over all n entries
-pub flags-decide : (n i : ℕ) (a b : Row) → i ≡ n → {f g p q : Bool} → f ≡ below i (rowIn a) (rowIn b) → g ≡ below i (rowIn b) (rowIn a)
-    → f ≡ p → g ≡ q → compared n (rowIn a) (rowIn b) ≡ byTests p q
-flags-decide n i a b h d e s t = rw (sym s, sym t, d, e, h) (compared-tests n (rowIn a) (rowIn b))
+pub flags-decide : (n i : ℕ) (a b : Row) → i ≡ n → {f g p q : Bool} → f ≡ not (below i (rowIn a) (rowIn b))
+    → g ≡ not (below i (rowIn b) (rowIn a)) → f ≡ p → g ≡ q → compared n (rowIn a) (rowIn b) ≡ byFlags p q
+flags-decide n i a b h d e s t = rw (sym s, sym t, d, e, h) (compared-flags n (rowIn a) (rowIn b))
 
 -- The words of the paper, by the answer that is at hand.
 
 module _ (n : ℕ) (a b : Row) {d : Comparison} {t : Bool} where
   pub answer-below : d ≡ compared n (rowIn a) (rowIn b) → t ≡ equalOrBelow d → t ≡ below n (rowIn a) (rowIn b)
-  answer-below e h = h ∙ ap equalOrBelow e ∙ sym (below-compared n (rowIn a) (rowIn b))
+  answer-below e h = h ∙ ap equalOrBelow e ∙ sym (rows-compared n (rowIn a) (rowIn b) .for25)
 
   pub answer-comparable : d ≡ compared n (rowIn a) (rowIn b) → t ≡ crossed d → not t ≡ comparable n (rowIn a) (rowIn b)
-  answer-comparable e h = ap not (h ∙ ap crossed e) ∙ sym (comparable-compared n (rowIn a) (rowIn b))
+  answer-comparable e h = ap not (h ∙ ap crossed e) ∙ sym (rows-compared n (rowIn a) (rowIn b) .for26)
 
 -- Matrices row by row.
 

@@ -80,27 +80,27 @@ impl Row {
         ensures { λ r. ⌜ comparisonIn r ≡ compared (min n 12) (rowIn self) (rowIn other) ⌝ }
     {
         let last = entries(n);
-        let mut below = true;
-        let mut above = true;
+        let mut exceeds = false;
+        let mut exceeded = false;
         let mut i = 0;
         while i < last {
             let a = self.counts[i];
             let b = other.counts[i];
-            below = below & (a <= b);
-            above = above & (b <= a);
+            exceeds = exceeds | (b < a);
+            exceeded = exceeded | (a < b);
             i += 1;
         }
-        if below {
-            if above {
-                Comparison::Equal
+        if exceeds {
+            if exceeded {
+                Comparison::Crossed
             } else {
-                Comparison::Below
+                Comparison::Above
             }
         } else {
-            if above {
-                Comparison::Above
+            if exceeded {
+                Comparison::Below
             } else {
-                Comparison::Crossed
+                Comparison::Equal
             }
         }
     }

@@ -1,12 +1,12 @@
--- `Row::compare` meets its contract: the flags say of the entries passed whether each row is below the other. Assumes nothing.
+-- `Row::compare` meets its contract: of the entries looked at, the flags say whether one exceeds its fellow. Assumes nothing.
 use borrow.Author.Needs.{needs}
 use Prim.Native.Nat.{_-_, _≤_, _<_, min}
-use mathlib.Core.Path.{_≡_, sym}
-use mathlib.Core.Bool.{Bool}
+use mathlib.Core.Path.{_≡_, sym, ap}
+use mathlib.Core.Bool.{Bool, not}
 use native.Mathlib.Omega.{arith}
 use Rattle.lists.proofs.Functions.{each-none}
 use Rattle.model.specs.Rows.{below, compared}
-use Rattle.model.proofs.RowClaims.{byTests}
+use Rattle.model.proofs.RowClaims.{byFlags}
 use Rattle.rows.specs.Meaning.{rowIn}
 use Rattle.rows.proofs.Laws.{flag-more, flags-decide}
 use Rattle.rows.proofs.Row.compare.Statement.{statement}
@@ -14,28 +14,25 @@ use Rattle.rows.proofs.Row.compare.Tie as tie
 
 abbrev Inv-loop : tie.InvT-loop
 Inv-loop n self other last f₀ g₀ i₀ f g i =
-    (i ≤ last) × ((last ≡ min n 12) × ((f ≡ below i (rowIn self) (rowIn other)) × (g ≡ below i (rowIn other) (rowIn self))))
+    (i ≤ last) × ((last ≡ min n 12) × ((f ≡ not (below i (rowIn self) (rowIn other))) × (g ≡ not (below i (rowIn other) (rowIn self)))))
 
 abbrev μ-loop : tie.MeasureT-loop
 μ-loop n self other last f₀ g₀ i₀ f g i = last - i
 
-abbrev start : tie.After-entries Inv-loop μ-loop → tie.Start Inv-loop μ-loop
-start c = c .before
-
-abbrev at-entries : tie.At-loop Inv-loop μ-loop → tie.After-entries Inv-loop μ-loop
-at-entries c = c .before
+abbrev start : tie.At-loop Inv-loop μ-loop → tie.Start Inv-loop μ-loop
+start c = c .before .before
 
 abbrev at-loop : tie.In-loop Inv-loop μ-loop → tie.At-loop Inv-loop μ-loop
 at-loop c = c .before
 
 loop-holds : tie.Need-loop-holds Inv-loop μ-loop
 unfolding below
-loop-holds c = (search needs, (search needs, (sym (each-none _), sym (each-none _))))
+loop-holds c = (search needs, (search needs, (ap not (sym (each-none _)), ap not (sym (each-none _)))))
 
 loop-again : tie.Need-loop-again Inv-loop μ-loop
 loop-again c =
     let loop = at-loop (c .before .before) in
-    let a = start (at-entries loop) .args in
+    let a = start loop .args in
     let l = loop .loop in
     let flags = l .inv .1 .1 in
     let h : l .i < 12 = omega arith in
@@ -44,12 +41,12 @@ loop-again c =
 -- once every entry is passed, the flags decide
 decided : {p q : Bool} (c : tie.After-loop Inv-loop μ-loop) →
     let loop = c .before in
-    let a = start (at-entries loop) .args in
-    loop .loop .below ≡ p → loop .loop .above ≡ q
-    → byTests p q ≡ compared (min (a .n) 12) (rowIn (a .t1)) (rowIn (a .t2))
+    let a = start loop .args in
+    loop .loop .exceeds ≡ p → loop .loop .exceeded ≡ q
+    → byFlags p q ≡ compared (min (a .n) 12) (rowIn (a .t1)) (rowIn (a .t2))
 decided c s t =
     let loop = c .before in
-    let a = start (at-entries loop) .args in
+    let a = start loop .args in
     let l = loop .loop in
     let flags = l .inv .1 .1 in
     sym (flags-decide (min (a .n) 12) (l .i) (a .t1) (a .t2) (omega arith) (flags .0) (flags .1) s t)
@@ -70,18 +67,5 @@ pub compare-spec : {M : Type 1} → statement M
 compare-spec =
     tie.close
     (tie.spec
-    Inv-loop
-    μ-loop
-    (λ c κs. search needs)
-    loop-holds
-    (λ c. search needs)
-    (λ c. search needs)
-    (λ c. search needs)
-    (λ c. search needs)
-    (λ c. search needs)
-    (λ c. search needs)
-    loop-again
-    returns
-    returns-2
-    returns-3
-    returns-4)
+    Inv-loop μ-loop (λ c κs. search needs) loop-holds (λ c. search needs) (λ c. search needs) (λ c. search needs)
+    (λ c. search needs) (λ c. search needs) (λ c. search needs) loop-again returns returns-2 returns-3 returns-4)

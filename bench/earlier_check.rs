@@ -10,12 +10,12 @@ use std::hint::black_box;
 use timing::{best, round, used};
 
 extern "C" {
-    fn earlier_message_check(bytes: *const u8, length: usize, n: u32) -> u32;
+    fn earlier_concur_message_check(bytes: *const u8, length: usize, n: u32) -> u32;
     fn concur_message_check(bytes: *const u8, length: usize, n: u32) -> u32;
 }
 
 fn earlier(bytes: &[u8], n: u32) -> u32 {
-    unsafe { earlier_message_check(bytes.as_ptr(), bytes.len(), n) }
+    unsafe { earlier_concur_message_check(bytes.as_ptr(), bytes.len(), n) }
 }
 
 fn now(bytes: &[u8], n: u32) -> u32 {
