@@ -10,7 +10,7 @@ use lib.Dec.{eqb, leb}
 use borrow.Author.Tests.{eqb-true, eqb-false, eq-eqb, ne-eqb, le-leb, not-false}
 use Rattle.lists.specs.Functions.{put}
 use Rattle.lists.proofs.Functions.{on, put-at, put-off, put-all, put-both, each-all}
-use Rattle.model.specs.Rows.{Row, Matrix, comparable}
+use Rattle.model.specs.Rows.{Row, Matrix, comparable, larger}
 use Rattle.model.specs.Records.{Value, Rec, write}
 use Rattle.model.specs.Kinds.{Kind, barred}
 use Rattle.model.specs.Member.{Member, begun, replied, passed, ownRecord, joined, haltNumber, completed, dropped, crashedOf}
@@ -182,9 +182,12 @@ module _ {n : ℕ} {b : Board} {ref : Reference} (inv : Inv n b ref) (i : ℕ) (
   abbrev new : Matrix
   new = joined n i r₂ (m₂ .own r₂) (m₂ .known) (m₂ .first .matrix)
 
-  others : (j : ℕ) → (j ≡ r₂ → ⊥) → inv .P j (new j)
+  elsewhere : (j : ℕ) → (j ≡ r₂ → ⊥) → new j ≡ larger n (m₂ .known j) (m₂ .first .matrix j)
   unfolding joined
-  others j d = rw (ne-eqb j r₂ d) (⊎-elim
+  elsewhere j d = rw (ne-eqb j r₂ d)
+
+  others : (j : ℕ) → (j ≡ r₂ → ⊥) → inv .P j (new j)
+  others j d = rw (elsewhere j d) (⊎-elim
       (λ p. rw p (old₂ .knownTops j)) (λ p. rw p (reply .firstTops j)) (larger-either n (m₂ .known j) (m₂ .first .matrix j)))
 
   raises : (j : ℕ) → m₂ .first .matrix j ≼ new j

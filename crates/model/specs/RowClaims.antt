@@ -1,5 +1,5 @@
--- What is claimed of the comparison of two rows (Rows.antt), document 02, (d): when each answer is so, by the entries 1 to n alone; and that
--- the words of the paper can be told by the answer.
+-- What is claimed of the comparison of two rows (Rows.antt), document 02, (d): when each answer is so, by the entries 1 to n alone; and
+-- what the words of the paper are by the answer.
 use Prim.Native.Nat.{ℕ, _≤_}
 use mathlib.Core.Path.{_≡_}
 use mathlib.Core.Bool.{cond, not}

@@ -1,5 +1,5 @@
--- What a row and a matrix held by value stand for: all twelve counts of all twelve rows, under the numbers 1 to 12; and what the answer of a
--- comparison stands for.
+-- What a row and a matrix held by value stand for: all twelve counts of all twelve rows, under the numbers 1 to 12; and what the answer of
+-- a comparison stands for.
 use mathlib.Core.List.{List, []}
 use lib.ListN.{getD}
 use Rattle.lists.specs.Functions.{numbered}
