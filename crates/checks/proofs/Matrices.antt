@@ -1,11 +1,11 @@
 -- Rows and matrices by value, read under the numbers 1 to 12; and the matrix of the member's own record.
 use Prim.Native.Nat.{ℕ, _+_, _-_, _≤_}
-use mathlib.Core.Path.{_≡_, refl, sym, ap, _∙_}
+use mathlib.Core.Path.{_≡_, sym, ap, _∙_}
 use mathlib.Core.List.{List}
 use native.Mathlib.Omega.{arith}
 use lib.Dec.{eqb}
 use lib.ListN.{length, getD, set}
-use borrow.Author.Tests.{eq-eqb, ne-eqb, eqb-true, eqb-false}
+use borrow.Author.Tests.{eqb-true, eqb-false}
 use Rattle.lists.specs.Functions.{put, pasted, within}
 use Rattle.lists.specs.Parts.{words}
 use Rattle.lists.proofs.Functions.{on, put-at, put-off, pasted-in, within-same}
@@ -13,6 +13,7 @@ use Rattle.lists.proofs.Parts.{seen, seen-set}
 use Rattle.model.specs.Rows.{Matrix, zeroRow, zeroMatrix, larger}
 use Rattle.model.specs.Records.{matrixWithin}
 use Rattle.model.specs.Member.{joined}
+use Rattle.model.proofs.Joined.{joined-slot, joined-other}
 use Rattle.rows.specs.declared.Row.{Row}
 use Rattle.rows.specs.Meaning.{rowIn, matrixIn, noRow}
 use Rattle.rows.proofs.Laws.{count-at, row-at}
@@ -22,15 +23,6 @@ row-of m j p q = ap (matrixIn m) (let e : j ≡ j - 1 + 1 = omega arith in e) �
 
 pub count-of : (r : Row) (k : ℕ) → 1 ≤ k → k ≤ 12 → rowIn r k ≡ words (r .counts) (k - 1)
 count-of r k p q = ap (rowIn r) (let e : k ≡ k - 1 + 1 = omega arith in e) ∙ count-at r (k - 1) (omega arith)
-
-joined-slot : (n i r count : ℕ) (known newest : Matrix) → joined n i r count known newest r ≡ put (newest r) i count
-unfolding joined
-joined-slot n i r count known newest = rw (eq-eqb r r refl)
-
-joined-other : (n i r count : ℕ) (known newest : Matrix) (j : ℕ) → (j ≡ r → ⊥)
-    → joined n i r count known newest j ≡ larger n (known j) (newest j)
-unfolding joined
-joined-other n i r count known newest j d = rw (ne-eqb j r d)
 
 -- n rows taken one by one, then the slot's row stored
 pub joined-rows : (m : List Row) (row : Row) (n i r count : ℕ) (known newest : Matrix) → n ≤ 12 → 1 ≤ r → r ≤ n → length m ≡ 12
@@ -54,4 +46,4 @@ joined-rows m row n i r count known newest small least most long e f =
         ∙ ap (λ g. g (j - 1)) e
         ∙ pasted-in 0 n (λ j. larger n (known (j + 1)) (newest (j + 1))) zeroMatrix (j - 1) (omega arith) (omega arith)
         ∙ ap (λ k. larger n (known k) (newest k)) (let t : j - 1 - 0 + 1 ≡ j = omega arith in t)
-        ∙ sym (joined-other n i r count known newest j d))
+        ∙ sym (joined-other n i r count known newest j s))

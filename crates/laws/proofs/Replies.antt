@@ -3,9 +3,10 @@ use Prim.Native.Nat.{ℕ, _+_, _≤_}
 use mathlib.Core.Path.{_≡_, refl, sym, ap, ap₂, _∙_, fun-ext}
 use mathlib.Core.Bool.{false, _||_}
 use lib.Dec.{eqb, leb}
-use borrow.Author.Tests.{eq-eqb, eqb-true}
+use borrow.Author.Tests.{eqb-true}
 use Rattle.lists.specs.Functions.{put, inside, within}
 use Rattle.lists.proofs.Functions.{on, each-same, inside-in, inside-low, inside-high, within-at, within-off}
+use Rattle.model.proofs.Joined.{joined-slot, joined-other}
 use Rattle.model.specs.Rows.{Row, Matrix, zeroRow, below, matrixBelow, comparable, larger}
 use Rattle.model.specs.Records.{Rec, matrixWithin, recordWithin}
 use Rattle.model.specs.RecordWords.{matrixOf, valueOf}
@@ -103,15 +104,6 @@ larger-within n a b =
 larger-same : (n : ℕ) (a : Row) → larger n a a ≡ a
 unfolding larger
 larger-same n a = on (below n a a) (λ h. rw h) (λ h. rw h)
-
-module _ (n i r count : ℕ) (known newest : Matrix) where
-  joined-slot : joined n i r count known newest r ≡ put (newest r) i count
-  unfolding joined
-  joined-slot = rw (eq-eqb r r refl)
-
-  joined-other : (j : ℕ) → eqb j r ≡ false → joined n i r count known newest j ≡ larger n (known j) (newest j)
-  unfolding joined
-  joined-other j h = rw h
 
 pub joined-within : (n i r count : ℕ) (known newest : Matrix) → 1 ≤ i → i ≤ n → 1 ≤ r → r ≤ n
     → matrixWithin n (joined n i r count known newest) ≡ joined n i r count (matrixWithin n known) (matrixWithin n newest)

@@ -1,6 +1,7 @@
 pub mod Rows
 pub mod RowClaims
 pub mod Order
+pub mod Joined
 pub mod NumberClaims
 pub mod LengthClaims
 pub mod Answers
