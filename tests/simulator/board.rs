@@ -2,6 +2,8 @@
 // main code. Members and slots are numbered 1 to n; vectors here start at 0,
 // so "slot r, member k" of a matrix is matrix[r - 1][k - 1].
 
+use std::cmp::Ordering;
+
 pub const READ: u32 = 1;
 pub const WRITE: u32 = 2;
 
@@ -62,6 +64,22 @@ pub struct Answer {
 
 fn only(number: u32) -> Answer {
     Answer { number, returned: None }
+}
+
+/// What the checks of a reply found: the halt number of the first that fails,
+/// or 0, and how many pairs of counts were looked at up to there.
+#[derive(Clone, Copy, Debug, PartialEq, Eq)]
+pub struct Verdict {
+    pub halt: u32,
+    pub pairs: u32,
+}
+
+/// What taking a reply gives: the commit to be sent, or none after a halt,
+/// and beside it the pairs.
+#[derive(Clone, Debug, PartialEq, Eq)]
+pub struct Taken {
+    pub commit: Option<Record>,
+    pub pairs: u32,
 }
 
 /// What a member sends to the host first.
@@ -302,19 +320,6 @@ pub fn row_below(a: &[u32], b: &[u32]) -> bool {
     true
 }
 
-pub fn matrix_below(a: &Matrix, b: &Matrix) -> bool {
-    for r in 0..a.len() {
-        if !row_below(&a[r], &b[r]) {
-            return false;
-        }
-    }
-    true
-}
-
-pub fn rows_comparable(a: &[u32], b: &[u32]) -> bool {
-    row_below(a, b) || row_below(b, a)
-}
-
 // ---------------------------------------------------------------- grounds
 
 pub fn in_range(number: u32, n: u32) -> bool {
@@ -488,53 +493,125 @@ fn step_begin(block: &mut Block, slot: u32, op_type: u32, sheet: &Sheet) {
     block.phase = SUBMIT_SENT;
 }
 
-/// The halt number of the first check that fails, or 0.
-pub fn halt_of(block: &Block, n: u32, member: u32, seals: u32, newest: &Record, stored: &Record) -> u32 {
-    let n = n as usize;
-    let m = member as usize - 1;
-    let r = block.slot as usize - 1;
-
-    if seals != 3 {
-        return 21;
-    }
-    for k in 0..n {
-        if k != m && block.known[r][k] > newest.matrix[r][k] {
-            return 22;
-        }
-    }
-    if newest.matrix[r][m] != block.accepted_counts[r] {
-        return 23;
-    }
-    if stored.member != block.slot {
-        return 24;
-    }
-    if !matrix_below(&stored.matrix, &newest.matrix) {
-        return 25;
-    }
-    if stored.matrix[r][r] != newest.matrix[r][r] {
-        return 25;
-    }
-    for k in 0..n {
-        if k != r && !rows_comparable(&block.known[k], &newest.matrix[k]) {
-            return 26;
-        }
-    }
-    for k in 0..n {
-        if k != r && newest.matrix[k][m] > block.accepted_counts[k] {
-            return 27;
-        }
-    }
-    0
+/// The checks of a reply, of member m on slot r, here both from 0. What is
+/// counted is what is done: they compare counts in `compare` alone.
+struct Checks<'a> {
+    m: usize,
+    r: usize,
+    accepted: &'a [u32],
+    known: &'a Matrix,
+    newest: &'a Matrix,
+    stored: &'a Matrix,
+    pairs: u32,
 }
 
-fn step_reply(block: &mut Block, n: u32, member: u32, seals: u32, newest: &Record, stored: &Record) {
-    let halt = halt_of(block, n, member, seals, newest, stored);
+impl Checks<'_> {
+    /// Looks at one pair.
+    fn compare(&mut self, a: u32, b: u32) -> Ordering {
+        self.pairs += 1;
+        a.cmp(&b)
+    }
+
+    /// Looks at two rows to their end: is some entry of a less than its
+    /// fellow, is some greater?
+    fn compare_rows(&mut self, a: &[u32], b: &[u32]) -> (bool, bool) {
+        let (mut less, mut greater) = (false, false);
+        for k in 0..a.len() {
+            match self.compare(a[k], b[k]) {
+                Ordering::Less => less = true,
+                Ordering::Equal => {}
+                Ordering::Greater => greater = true,
+            }
+        }
+        (less, greater)
+    }
+
+    fn fails_22(&mut self) -> bool {
+        for k in 0..self.known.len() {
+            if k != self.m && self.compare(self.known[self.r][k], self.newest[self.r][k]).is_gt() {
+                return true;
+            }
+        }
+        false
+    }
+
+    fn fails_23(&mut self) -> bool {
+        self.compare(self.newest[self.r][self.m], self.accepted[self.r]).is_ne()
+    }
+
+    fn fails_25(&mut self) -> bool {
+        for k in 0..self.stored.len() {
+            let (_, greater) = self.compare_rows(&self.stored[k], &self.newest[k]);
+            if greater {
+                return true;
+            }
+        }
+        self.compare(self.stored[self.r][self.r], self.newest[self.r][self.r]).is_ne()
+    }
+
+    fn fails_26(&mut self) -> bool {
+        for k in 0..self.known.len() {
+            if k == self.r {
+                continue;
+            }
+            let (less, greater) = self.compare_rows(&self.known[k], &self.newest[k]);
+            if less && greater {
+                return true;
+            }
+        }
+        false
+    }
+
+    fn fails_27(&mut self) -> bool {
+        for k in 0..self.newest.len() {
+            if k != self.r && self.compare(self.newest[k][self.m], self.accepted[k]).is_gt() {
+                return true;
+            }
+        }
+        false
+    }
+}
+
+/// Makes the checks in order. 21 and 24 compare no counts.
+pub fn halt_of(block: &Block, member: u32, seals: u32, newest: &Record, stored: &Record) -> Verdict {
+    let mut checks = Checks {
+        m: member as usize - 1,
+        r: block.slot as usize - 1,
+        accepted: &block.accepted_counts,
+        known: &block.known,
+        newest: &newest.matrix,
+        stored: &stored.matrix,
+        pairs: 0,
+    };
+    let halt = if seals != 3 {
+        21
+    } else if checks.fails_22() {
+        22
+    } else if checks.fails_23() {
+        23
+    } else if stored.member != block.slot {
+        24
+    } else if checks.fails_25() {
+        25
+    } else if checks.fails_26() {
+        26
+    } else if checks.fails_27() {
+        27
+    } else {
+        0
+    };
+    Verdict { halt, pairs: checks.pairs }
+}
+
+/// Gives the pairs, also where it halts.
+fn step_reply(block: &mut Block, n: u32, member: u32, seals: u32, newest: &Record, stored: &Record) -> u32 {
+    let Verdict { halt, pairs } = halt_of(block, member, seals, newest, stored);
     if halt != 0 {
         block.phase = HALTED;
         block.halt_number = halt;
         block.first = zero_record(n);
         block.second = zero_record(n);
-        return;
+        return pairs;
     }
     let m = member as usize - 1;
     let r = block.slot as usize - 1;
@@ -559,6 +636,7 @@ fn step_reply(block: &mut Block, n: u32, member: u32, seals: u32, newest: &Recor
     };
     block.second = stored.clone();
     block.phase = COMMIT_SENT;
+    pairs
 }
 
 /// The record that a member in phase 3 sends: sheet and matrix are the
@@ -754,8 +832,8 @@ pub fn half_begin(words: &mut [u32], n: u32, member: u32, slot: u32, op_type: u3
     Ok(Submit { member, slot, op_type, count: own_count(&block) })
 }
 
-/// Takes a reply, and hands out the commit to be sent, or none after a halt.
-pub fn half_take_reply(words: &mut [u32], n: u32, member: u32, seals: u32, newest: &Record, stored: &Record) -> Result<Option<Record>, u32> {
+/// Takes a reply. A refusal has looked at no pair.
+pub fn half_take_reply(words: &mut [u32], n: u32, member: u32, seals: u32, newest: &Record, stored: &Record) -> Result<Taken, u32> {
     let fault = check_block(words, n, member);
     if fault != 0 {
         return Err(fault);
@@ -770,12 +848,10 @@ pub fn half_take_reply(words: &mut [u32], n: u32, member: u32, seals: u32, newes
     if seals > 3 || record_fields_bad(newest, n) || record_fields_bad(stored, n) {
         return Err(15);
     }
-    step_reply(&mut block, n, member, seals, newest, stored);
+    let pairs = step_reply(&mut block, n, member, seals, newest, stored);
     words.copy_from_slice(&block_to_words(&block));
-    if block.phase == HALTED {
-        return Ok(None);
-    }
-    Ok(Some(commit_of(&block, member)))
+    let commit = if block.phase == HALTED { None } else { Some(commit_of(&block, member)) };
+    Ok(Taken { commit, pairs })
 }
 
 /// Takes an outcome (1 accepted, 2 aborted).

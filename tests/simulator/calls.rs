@@ -6,7 +6,7 @@ pub trait Calls {
     fn read(bytes: &[u8], n: u32, fields: &mut [u32]) -> u32;
     fn write(fields: &[u32], n: u32, out: &mut [u8], written: &mut [u32]) -> u32;
     fn begin(block: &mut [u32], n: u32, member: u32, slot: u32, op_type: u32, value: &[u32]) -> u32;
-    fn reply(block: &mut [u32], n: u32, member: u32, records: &[u32], seals: u32) -> u32;
+    fn reply(block: &mut [u32], n: u32, member: u32, records: &[u32], seals: u32, pairs: &mut [u32]) -> u32;
     fn outcome(block: &mut [u32], n: u32, member: u32, outcome: u32, returned: &mut [u32]) -> u32;
     fn crash(block: &mut [u32], n: u32, member: u32) -> u32;
     fn submit(entries: &mut [u32], n: u32, member: u32, slot: u32, op_type: u32, count: u32, records: &mut [u32]) -> u32;
@@ -33,7 +33,7 @@ pub struct Lent {
     pub words: Vec<u32>,   // block or entries
     pub bytes: Vec<u8>,    // message or output
     pub given: Vec<u32>,   // value, records, record, fields to write
-    pub results: Vec<u32>, // fields read, written, returned, records, outcome
+    pub results: Vec<u32>, // fields read, written, pairs, returned, records, outcome
 }
 
 impl Call {
@@ -58,7 +58,7 @@ impl Call {
             Call::Read { .. } => (0, FIELDS),
             Call::Write { .. } => (FIELDS, 1),
             Call::Begin { .. } => (8, 0),
-            Call::Reply { .. } => (RECORDS, 0),
+            Call::Reply { .. } => (RECORDS, 1),
             Call::Outcome { .. } => (0, 9),
             Call::Crash { .. } => (0, 0),
             Call::Submit { .. } => (0, RECORDS),
@@ -71,7 +71,7 @@ impl Call {
             Call::Read { n } => C::read(bytes, n, results),
             Call::Write { n } => C::write(given, n, bytes, results),
             Call::Begin { n, member, slot, op_type } => C::begin(words, n, member, slot, op_type, given),
-            Call::Reply { n, member, seals } => C::reply(words, n, member, given, seals),
+            Call::Reply { n, member, seals } => C::reply(words, n, member, given, seals, results),
             Call::Outcome { n, member, outcome } => C::outcome(words, n, member, outcome, results),
             Call::Crash { n, member } => C::crash(words, n, member),
             Call::Submit { n, member, slot, op_type, count } => C::submit(words, n, member, slot, op_type, count, results),

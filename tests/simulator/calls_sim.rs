@@ -51,16 +51,21 @@ impl Calls for Simulator {
         }
     }
 
-    fn reply(block: &mut [u32], n: u32, member: u32, records: &[u32], seals: u32) -> u32 {
-        if records.len() != RECORDS {
+    fn reply(block: &mut [u32], n: u32, member: u32, records: &[u32], seals: u32, pairs: &mut [u32]) -> u32 {
+        if records.len() != RECORDS || pairs.len() != 1 {
             return 2;
         }
+        pairs[0] = 0;
         if !n_is_good(n) {
             return 1;
         }
         let newest = record_from_words(records, n);
         let stored = record_from_words(&records[RECORD..], n);
-        number_of(board::half_take_reply(block, n, member, seals, &newest, &stored))
+        let answer = board::half_take_reply(block, n, member, seals, &newest, &stored);
+        if let Ok(taken) = &answer {
+            pairs[0] = taken.pairs;
+        }
+        number_of(answer)
     }
 
     fn outcome(block: &mut [u32], n: u32, member: u32, outcome: u32, returned: &mut [u32]) -> u32 {

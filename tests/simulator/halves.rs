@@ -20,6 +20,7 @@ mod message_cases;
 mod messages;
 mod noise;
 mod random;
+mod replies;
 mod rng;
 mod tally;
 

@@ -5,6 +5,7 @@ use crate::both::Both;
 use crate::calls::Call;
 use crate::noise::noisy_records;
 use crate::random::*;
+use crate::replies::*;
 use crate::rng::Rng;
 
 const SEALS: [u32; 9] = [0, 1, 2, 3, 4, 5, 255, 259, u32::MAX];
@@ -13,16 +14,6 @@ const EDGES: [u32; 4] = [13, 256, 257, u32::MAX];
 
 fn idle_block(n: u32) -> Block {
     block_from_words(&vec![0; block_words(n)], n)
-}
-
-/// A block that waits for the first reply to its first operation.
-fn waiting_block(n: u32, member: u32, slot: u32) -> Block {
-    let mut block = idle_block(n);
-    block.phase = SUBMIT_SENT;
-    block.slot = slot;
-    block.op_type = type_for(member, slot);
-    block.own_counts[slot as usize - 1] = 1;
-    block
 }
 
 /// Each call once, on a copy of the block.
@@ -152,11 +143,44 @@ fn fixed_fields(both: &mut Both) {
     }
 }
 
+/// The checks failing at each place, alone and with a second fault, so that
+/// the first in order decides halt and pairs: on small boards each other one,
+/// else the next place, mostly in the same row, and any.
+fn faults_of(both: &mut Both, rng: &mut Rng, n: u32, member: u32, slot: u32) {
+    let all = all_faults(n, member, slot);
+    let mut together: Vec<Vec<Fault>> = vec![vec![]];
+    for (place, fault) in all.iter().enumerate() {
+        let next = all[(place + 1) % all.len()];
+        let second = if n <= 3 { all.clone() } else { vec![next, *rng.pick(&all)] };
+        together.push(vec![*fault]);
+        together.extend(second.iter().map(|other| vec![*fault, *other]));
+    }
+    for faults in &together {
+        let reply = faulty_reply(rng, n, member, slot, faults);
+        let given = noisy_records(rng, &reply.newest, &reply.stored, n);
+        both.words(&Call::Reply { n, member, seals: reply.seals }, &mut block_to_words(&reply.block), given);
+    }
+}
+
+/// Small boards with every member and slot, the others with some.
+fn fixed_faults(both: &mut Both) {
+    let mut rng = Rng::new(45);
+    for n in 1..=12 {
+        let numbers: Vec<u32> = if n <= 5 { (1..=n).collect() } else { vec![1, n / 2, n] };
+        for member in &numbers {
+            for slot in &numbers {
+                faults_of(both, &mut rng, n, *member, *slot);
+            }
+        }
+    }
+}
+
 pub fn fixed(both: &mut Both) {
     fixed_heads(both);
     fixed_words(both);
     fixed_begins(both);
     fixed_fields(both);
+    fixed_faults(both);
 }
 
 // ---------------------------------------------------------------- random

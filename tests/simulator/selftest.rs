@@ -7,13 +7,15 @@ mod message_cases;
 mod messages;
 mod random;
 mod reference;
+mod replies;
 mod rng;
 mod script;
 
 use board::*;
 use messages::Message;
 use reference::{Book, Call};
-use random::random_sheet;
+use random::{near_reply, random_sheet, NearReply};
+use replies::{all_faults, faulty_reply, Fault, Fault::*};
 use rng::Rng;
 
 fn main() {
@@ -28,6 +30,11 @@ fn main() {
     boards_to_prove();
     grounds_in_order();
     halts_in_order();
+    pairs_of_one_and_two(&mut Rng::new(seed));
+    pairs_of_three(&mut Rng::new(seed));
+    pairs_of_twelve(&mut Rng::new(seed));
+    first_fault_decides(&mut Rng::new(seed));
+    pairs_at_random(&mut Rng::new(seed));
     half_grounds();
     message_grounds();
     message_round_trips(&mut Rng::new(seed));
@@ -236,7 +243,7 @@ fn boards_to_prove() {
     assert_eq!((halted.first.clone(), halted.second.clone()), (zero_record(2), zero_record(2)));
     assert_eq!((halted.slot, halted.op_type), (2, READ));
     let none = half_take_reply(&mut half, 2, 1, 3, &entry.newest, &entry.stored);
-    assert_eq!(none, Ok(None));
+    assert_eq!(none, Ok(Taken { commit: None, pairs: 1 }));
     assert_eq!(block_from_words(&half, 2), halted);
     assert_eq!(deliver(&mut table, 1).number, 10);
     assert_eq!(crash(&mut table, 1), 11);
@@ -369,27 +376,30 @@ fn halts_in_order() {
 
     let mut seen = Vec::new();
     for seals in 0..3 {
-        assert_eq!(halt_of(&block, n, 1, seals, &newest, &stored), 21);
+        assert_eq!(halt_of(&block, 1, seals, &newest, &stored), Verdict { halt: 21, pairs: 0 });
     }
-    seen.push(halt_of(&block, n, 1, 3, &newest, &stored));
+    seen.push(halt_of(&block, 1, 3, &newest, &stored));
     newest.matrix[1][2] = 3;
-    seen.push(halt_of(&block, n, 1, 3, &newest, &stored));
+    seen.push(halt_of(&block, 1, 3, &newest, &stored));
     newest.matrix[1][0] = 4;
-    seen.push(halt_of(&block, n, 1, 3, &newest, &stored));
+    seen.push(halt_of(&block, 1, 3, &newest, &stored));
     stored.member = 2;
-    seen.push(halt_of(&block, n, 1, 3, &newest, &stored));
+    seen.push(halt_of(&block, 1, 3, &newest, &stored));
     stored.matrix[2][2] = 2;
-    seen.push(halt_of(&block, n, 1, 3, &newest, &stored));
+    seen.push(halt_of(&block, 1, 3, &newest, &stored));
     stored.matrix[1][1] = 3;
-    seen.push(halt_of(&block, n, 1, 3, &newest, &stored));
+    seen.push(halt_of(&block, 1, 3, &newest, &stored));
     newest.matrix[0][1] = 1;
-    seen.push(halt_of(&block, n, 1, 3, &newest, &stored));
+    seen.push(halt_of(&block, 1, 3, &newest, &stored));
     newest.matrix[2][0] = 1;
-    seen.push(halt_of(&block, n, 1, 3, &newest, &stored));
-    assert_eq!(seen, vec![22, 23, 24, 25, 25, 26, 27, 0]);
+    seen.push(halt_of(&block, 1, 3, &newest, &stored));
+    let expected = [(22, 2), (23, 3), (24, 3), (25, 12), (25, 13), (26, 16), (27, 21), (0, 21)];
+    assert_eq!(seen, expected.map(|(halt, pairs)| Verdict { halt, pairs }));
 
     let mut words = block_to_words(&block);
-    let commit = half_take_reply(&mut words, n, 1, 3, &newest, &stored).unwrap().unwrap();
+    let taken = half_take_reply(&mut words, n, 1, 3, &newest, &stored).unwrap();
+    assert_eq!(taken.pairs, 21);
+    let commit = taken.commit.unwrap();
     assert_eq!((commit.member, commit.slot, commit.op_type, commit.count), (1, 2, READ, 6));
     assert_eq!(commit.matrix, vec![vec![0, 1, 1], vec![6, 3, 3], vec![1, 2, 2]]);
     let after = block_from_words(&words, n);
@@ -397,6 +407,124 @@ fn halts_in_order() {
     assert_eq!(after.second, stored);
     println!("ok halts");
 }
+
+// ---------------------------------------------------------------- pairs
+
+const NO_FAULT: Fault = Seals(3);
+
+/// The ceiling.
+fn most_pairs(n: u32) -> u32 {
+    2 * n * n + n
+}
+
+/// Halt and pairs of a reply with these faults, from the checks and from the half.
+fn verdict_on(rng: &mut Rng, n: u32, member: u32, slot: u32, faults: &[Fault]) -> (u32, u32) {
+    let reply = faulty_reply(rng, n, member, slot, faults);
+    let Verdict { halt, pairs } = halt_of(&reply.block, member, reply.seals, &reply.newest, &reply.stored);
+    let mut words = block_to_words(&reply.block);
+    let taken = half_take_reply(&mut words, n, member, reply.seals, &reply.newest, &reply.stored).unwrap();
+    assert_eq!((words[2], taken.pairs), (halt, pairs));
+    assert_eq!(taken.commit.is_none(), halt != 0);
+    (halt, pairs)
+}
+
+/// Halt and pairs with each of the faults alone.
+fn by_hand(rng: &mut Rng, n: u32, member: u32, slot: u32, expected: &[(Fault, u32, u32)]) {
+    for (fault, halt, pairs) in expected {
+        let found = verdict_on(rng, n, member, slot, &[*fault]);
+        assert_eq!(found, (*halt, *pairs), "n {} member {} slot {} {:?}", n, member, slot, fault);
+    }
+}
+
+/// Worked out by hand from request (i), like those of the next two.
+fn pairs_of_one_and_two(rng: &mut Rng) {
+    // None in 22, one in 23, one and one more in 25, none in 26 and 27.
+    by_hand(rng, 1, 1, 1, &[(Seals(0), 21, 0), (Seals(1), 21, 0), (Accepted(true), 23, 1), (Accepted(false), 23, 1)]);
+    by_hand(rng, 1, 1, 1, &[(Stored(1, 1), 25, 2), (Corner, 25, 3), (NO_FAULT, 0, 3)]);
+    // On a board a stored record may be nobody's.
+    let reply = faulty_reply(rng, 1, 1, 1, &[Owner(0)]);
+    assert_eq!(halt_of(&reply.block, 1, 3, &reply.newest, &reply.stored), Verdict { halt: 24, pairs: 1 });
+    // 1, 1, 4 and one more, 2, 1: a write and a read.
+    for slot in [1, 2] {
+        let other = 3 - slot;
+        by_hand(rng, 2, 1, slot, &[(Seals(2), 21, 0), (Known(2), 22, 1), (Accepted(true), 23, 2), (Owner(other), 24, 2)]);
+        by_hand(rng, 2, 1, slot, &[(Stored(1, 1), 25, 4), (Stored(1, 2), 25, 4), (Stored(2, 1), 25, 6), (Stored(2, 2), 25, 6)]);
+        by_hand(rng, 2, 1, slot, &[(Corner, 25, 7), (Crossed(other, 1, 2), 26, 9), (Crossed(other, 2, 1), 26, 9)]);
+        by_hand(rng, 2, 1, slot, &[(Ahead(other), 27, 10), (NO_FAULT, 0, 10)]);
+    }
+    by_hand(rng, 2, 2, 1, &[(Known(1), 22, 1), (Accepted(false), 23, 2), (Crossed(2, 1, 2), 26, 9), (Ahead(2), 27, 10)]);
+}
+
+/// 2, 1, 9 and one more, 3 for each of two rows, 2.
+fn pairs_of_three(rng: &mut Rng) {
+    by_hand(rng, 3, 1, 2, &[(Seals(0), 21, 0), (Known(2), 22, 1), (Known(3), 22, 2), (Accepted(true), 23, 3)]);
+    by_hand(rng, 3, 1, 2, &[(Accepted(false), 23, 3), (Owner(1), 24, 3), (Owner(3), 24, 3), (Stored(1, 1), 25, 6)]);
+    by_hand(rng, 3, 1, 2, &[(Stored(1, 3), 25, 6), (Stored(2, 1), 25, 9), (Stored(2, 2), 25, 9), (Stored(3, 1), 25, 12)]);
+    by_hand(rng, 3, 1, 2, &[(Stored(3, 3), 25, 12), (Corner, 25, 13), (Crossed(1, 1, 2), 26, 16), (Crossed(1, 3, 1), 26, 16)]);
+    by_hand(rng, 3, 1, 2, &[(Crossed(3, 1, 2), 26, 19), (Crossed(3, 2, 3), 26, 19), (Ahead(1), 27, 20), (Ahead(3), 27, 21)]);
+    by_hand(rng, 3, 1, 2, &[(NO_FAULT, 0, 21)]);
+    by_hand(rng, 3, 2, 2, &[(Known(1), 22, 1), (Known(3), 22, 2), (Crossed(3, 2, 1), 26, 19), (Ahead(1), 27, 20)]);
+    by_hand(rng, 3, 2, 2, &[(NO_FAULT, 0, 21)]);
+    by_hand(rng, 3, 3, 1, &[(Known(1), 22, 1), (Known(2), 22, 2), (Crossed(2, 1, 3), 26, 16), (Ahead(2), 27, 20), (Ahead(3), 27, 21)]);
+}
+
+/// 11, 1, 144 and one more, 12 for each of eleven rows, 11.
+fn pairs_of_twelve(rng: &mut Rng) {
+    by_hand(rng, 12, 5, 9, &[(Known(1), 22, 1), (Known(4), 22, 4), (Known(6), 22, 5), (Known(12), 22, 11)]);
+    by_hand(rng, 12, 5, 9, &[(Accepted(true), 23, 12), (Owner(5), 24, 12), (Stored(1, 7), 25, 24), (Stored(9, 9), 25, 120)]);
+    by_hand(rng, 12, 5, 9, &[(Stored(12, 1), 25, 156), (Corner, 25, 157), (Crossed(1, 1, 2), 26, 169), (Crossed(8, 9, 4), 26, 253)]);
+    by_hand(rng, 12, 5, 9, &[(Crossed(10, 1, 2), 26, 265), (Crossed(12, 1, 12), 26, 289), (Ahead(1), 27, 290), (Ahead(8), 27, 297)]);
+    by_hand(rng, 12, 5, 9, &[(Ahead(10), 27, 298), (Ahead(12), 27, 300), (NO_FAULT, 0, 300)]);
+    by_hand(rng, 12, 12, 12, &[(Known(11), 22, 11), (Accepted(false), 23, 12), (Crossed(11, 2, 1), 26, 289), (Ahead(11), 27, 300)]);
+    by_hand(rng, 12, 12, 12, &[(NO_FAULT, 0, 300)]);
+}
+
+/// Each two faults together: the first check decides, and its first place.
+fn two_faults(rng: &mut Rng, n: u32, member: u32, slot: u32) {
+    let all = all_faults(n, member, slot);
+    let alone: Vec<(u32, u32)> = all.iter().map(|fault| verdict_on(rng, n, member, slot, &[*fault])).collect();
+    for (first, one) in all.iter().enumerate() {
+        for (second, other) in all.iter().enumerate() {
+            let both = [*one, *other];
+            if both.contains(&Corner) && both.contains(&Stored(slot, slot)) {
+                continue;
+            }
+            let found = verdict_on(rng, n, member, slot, &both);
+            assert_eq!(found, alone[first].min(alone[second]), "n {} member {} slot {} {:?}", n, member, slot, both);
+        }
+    }
+}
+
+fn first_fault_decides(rng: &mut Rng) {
+    for n in 1..=4 {
+        for member in 1..=n {
+            for slot in 1..=n {
+                two_faults(rng, n, member, slot);
+            }
+        }
+    }
+    println!("ok pairs by hand, and with two faults");
+}
+
+/// Never above the ceiling, and that exactly where a reply passes.
+fn pairs_at_random(rng: &mut Rng) {
+    let mut passed = [0; 13];
+    for n in 1..=12 {
+        for _ in 0..2000 {
+            let NearReply { member, block, newest, stored } = near_reply(rng, n);
+            let Verdict { halt, pairs } = halt_of(&block, member, 3, &newest, &stored);
+            assert!(pairs <= most_pairs(n));
+            if halt == 0 {
+                assert_eq!(pairs, most_pairs(n));
+                passed[n as usize] += 1;
+            }
+        }
+        assert!(passed[n as usize] > 0);
+    }
+    println!("ok pairs: passed of 2000 for n 1 to 12 {:?}", &passed[1..]);
+}
+
+// ---------------------------------------------------------------- the halves
 
 fn half_grounds() {
     let n = 2;
@@ -638,8 +766,9 @@ impl Apart {
                 }
                 match self.to_member[m].take().unwrap() {
                     Message::Reply { newest, stored } => {
-                        let commit = half_take_reply(&mut self.blocks[m], n, *member, 3, &newest, &stored).unwrap().unwrap();
-                        self.to_host[m] = Some(through_bytes(Message::Commit(commit), n));
+                        let taken = half_take_reply(&mut self.blocks[m], n, *member, 3, &newest, &stored).unwrap();
+                        assert_eq!(taken.pairs, most_pairs(n));
+                        self.to_host[m] = Some(through_bytes(Message::Commit(taken.commit.unwrap()), n));
                         None
                     }
                     Message::Outcome(outcome) => {

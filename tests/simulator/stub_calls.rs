@@ -21,8 +21,8 @@ pub unsafe extern "C" fn concur_call_member_begin(block: *mut u32, words: usize,
 }
 
 #[no_mangle]
-pub unsafe extern "C" fn concur_call_member_reply(block: *mut u32, words: usize, n: u32, member: u32, records: *const u32, records_words: usize, seals: u32) -> u32 {
-    Simulator::reply(lent(block, words), n, member, given(records, records_words), seals)
+pub unsafe extern "C" fn concur_call_member_reply(block: *mut u32, words: usize, n: u32, member: u32, records: *const u32, records_words: usize, seals: u32, pairs: *mut u32, pairs_words: usize) -> u32 {
+    Simulator::reply(lent(block, words), n, member, given(records, records_words), seals, lent(pairs, pairs_words))
 }
 
 #[no_mangle]

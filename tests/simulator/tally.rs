@@ -1,7 +1,9 @@
-// How often each answer and each halt of the calls on the halves came up.
+// How often each answer and each halt of the calls on the halves came up, and
+// with how many pairs.
 
 use crate::board::{ABORTED, ACCEPTED, HALTED};
 use crate::calls::{Call, Lent, NAMES};
+use std::collections::BTreeMap;
 
 /// The answers of each call that can occur, as in NAMES: on anything that is
 /// handed in, and in walks, where n and the lengths are right.
@@ -17,12 +19,28 @@ const ANYWHERE: [&[usize]; 8] = [
 ];
 const IN_WALKS: [&[usize]; 8] = [&[0, 12, 13, 14, 15], &[0], &[0, 8, 9], &[0, 10, 15], &[0, 10], &[0, 11], &[0], &[0]];
 
+/// How a reply that was taken ended: its halt, or 0 where it passed.
+const ENDS: [u32; 8] = [0, 21, 22, 23, 24, 25, 26, 27];
+
+/// How many numbers of pairs there are with which a reply can end so: one for
+/// each place at which its check can fail, of 25 and 26 for each row. With one
+/// member there is no other that a stored record could be of.
+fn numbers_of_pairs(end: u32, n: u32) -> usize {
+    let places = match end {
+        22 | 26 | 27 => n - 1,
+        24 => (n - 1).min(1),
+        25 => n + 1,
+        _ => 1,
+    };
+    places as usize
+}
+
 #[derive(Default)]
 pub struct Tally {
     calls: u64,
     compared: u64,
     answers: [[u64; 17]; 8],
-    halts: [u64; 28],
+    replies: BTreeMap<(u32, u32, u32), u64>, // by end, n and pairs
     outcomes: [u64; 3],
     values: u64,
 }
@@ -36,11 +54,51 @@ impl Tally {
             return;
         }
         match call {
-            Call::Reply { .. } if after.words[0] == HALTED => self.halts[after.words[2] as usize] += 1,
+            Call::Reply { n, .. } => {
+                let end = if after.words[0] == HALTED { after.words[2] } else { 0 };
+                *self.replies.entry((end, *n, after.results[0])).or_default() += 1;
+            }
             Call::Outcome { .. } => self.values += after.results[0] as u64,
             Call::Commit { .. } => self.outcomes[after.results[0] as usize] += 1,
             _ => {}
         }
+    }
+
+    /// Prints how often replies ended in each way, and the fewest and the most
+    /// pairs; gives what never came up.
+    fn report_replies(&self) -> Vec<String> {
+        let mut missing = Vec::new();
+        for end in ENDS {
+            let name = if end == 0 { "passed".to_string() } else { format!("halt {}", end) };
+            let ended_so = || self.replies.iter().filter(|(key, _)| key.0 == end);
+            let times: u64 = ended_so().map(|(_, times)| times).sum();
+            let fewest = ended_so().map(|(key, _)| key.2).min().unwrap_or(0);
+            let most = ended_so().map(|(key, _)| key.2).max().unwrap_or(0);
+            println!("replies {:7} {:6} times, pairs {} to {}", name, times, fewest, most);
+            if times == 0 {
+                missing.push(name);
+            }
+        }
+        for (n, pairs) in [(1, 3), (12, 300)] {
+            if !self.replies.contains_key(&(0, n, pairs)) {
+                missing.push(format!("passed with {} pairs", pairs));
+            }
+        }
+        missing
+    }
+
+    /// Where not every number of pairs came up that can.
+    fn missing_pairs(&self) -> Vec<String> {
+        let mut missing = Vec::new();
+        for n in 1..=12 {
+            for end in ENDS {
+                let seen = self.replies.keys().filter(|key| (key.0, key.1) == (end, n)).count();
+                if seen < numbers_of_pairs(end, n) {
+                    missing.push(format!("some pairs of {} for n {}", end, n));
+                }
+            }
+        }
+        missing
     }
 
     /// Prints the counts; gives the names of what can occur and never did.
@@ -50,15 +108,12 @@ impl Tally {
             println!("{:7} by answer 0 to 16 {:?}", name, counts);
         }
         let (accepted, aborted) = (self.outcomes[ACCEPTED as usize], self.outcomes[ABORTED as usize]);
-        println!("halts 21 to 27 {:?}", &self.halts[21..]);
         println!("commits accepted {} aborted {} values returned {}", accepted, aborted, self.values);
-        let mut missing = Vec::new();
+        let mut missing = self.report_replies();
         for (place, numbers) in can_occur.iter().enumerate() {
             let never = numbers.iter().filter(|number| self.answers[place][**number] == 0);
             missing.extend(never.map(|number| format!("{} {}", NAMES[place], number)));
         }
-        let never = (21..28).filter(|halt| self.halts[*halt] == 0);
-        missing.extend(never.map(|halt| format!("halt {}", halt)));
         for (name, times) in [("accepted", accepted), ("aborted", aborted), ("a value", self.values)] {
             if times == 0 {
                 missing.push(name.to_string());
@@ -71,7 +126,8 @@ impl Tally {
 /// Prints both; ends with 1 where something that can occur never came up.
 pub fn report(cases: &Tally, walks: &Tally) {
     println!("cases:");
-    let in_cases = cases.report(&ANYWHERE);
+    let mut in_cases = cases.report(&ANYWHERE);
+    in_cases.extend(cases.missing_pairs());
     println!("walks:");
     let in_walks = walks.report(&IN_WALKS);
     if !in_cases.is_empty() || !in_walks.is_empty() {

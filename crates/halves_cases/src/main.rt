@@ -1,4 +1,5 @@
-// The cases P9, P10 and P11 of document 01 on the two halves as they run; what is printed is compared with the file stdout.
+// The cases P9, P10 and P11 of document 01 on the two halves as they run, and the pairs that a reply's checks look at; what is printed is
+// compared with the file stdout.
 use records::Record;
 use rows::Row;
 
@@ -19,7 +20,7 @@ fn p9() {
     let begun = member::begin(&mut block, 2, 1, 1, 2, [0; 8]);
     line(begun, block[0], block[5]);
     let replied = member::take_reply(&mut block, 2, 1, Record::opening(1), Record::opening(1), 3);
-    line(replied, block[0], block[5]);
+    line(replied.number, block[0], block[5]);
     let ended = member::take_outcome(&mut block, 2, 1, 2);
     line(ended.number, block[0], block[5]);
     let again = member::begin(&mut block, 2, 1, 1, 2, [0; 8]);
@@ -43,7 +44,7 @@ fn p10() {
     let stored = reply.stored;
     line(reply.number, entries[0], entries[1]);
     let replied = member::take_reply(&mut block, 2, 1, newest, stored, 3);
-    line(replied, block[0], block[41]);
+    line(replied.number, block[0], block[41]);
     let crashed = member::crash(&mut block, 2, 1);
     line(crashed, block[0], block[1]);
     let row = Row::ZERO.with(1, 1);
@@ -72,11 +73,74 @@ fn p11() {
     let mut newest = Record::opening(2);
     newest.matrix[1] = Row::ZERO.with(2, 1);
     let replied = member::take_reply(&mut block, 2, 1, newest, Record::opening(2), 3);
-    line(replied, block[0], block[2]);
+    line(replied.number, block[0], block[2]);
+}
+
+// Member 2 of 3, which reads slot 1, takes a reply: the answer, the halt number, the pairs looked at.
+fn looks(given: [u32; 78], newest: Record, stored: Record, seals: u32) {
+    let mut block = given;
+    member::begin(&mut block, 3, 2, 1, 1, [0; 8]);
+    let replied = member::take_reply(&mut block, 3, 2, newest, stored, seals);
+    line(replied.number, block[2], replied.pairs);
+}
+
+// A record of slot 1 by a member, with its three rows.
+fn record(member: u32, first: Row, second: Row, third: Row) -> Record {
+    let mut r = Record::opening(1);
+    r.member = member;
+    r.matrix[0] = first;
+    r.matrix[1] = second;
+    r.matrix[2] = third;
+    r
+}
+
+// A reply that passes; 21, and a call that is refused; then 22 and 23 in the slot's row, where the known one stands from word 27 on, and 24.
+fn slot_pairs() {
+    let zero = Row::ZERO;
+    let none = Record::opening(1);
+    let mut known = [0u32; 78];
+    looks(known, none, none, 3);
+    looks(known, none, none, 2);
+    looks(known, none, none, 4);
+    known[27] = 1;
+    looks(known, none, none, 3);
+    known[27] = 0;
+    known[28] = 5;
+    known[29] = 1;
+    looks(known, none, none, 3);
+    looks([0; 78], record(1, zero.with(2, 1), zero, zero), none, 3);
+    looks([0; 78], none, record(3, zero, zero, zero), 3);
+}
+
+// 25 in row 1, 2 and 3, and at 1 in row 1 alone.
+fn stored_pairs() {
+    let zero = Row::ZERO;
+    let none = Record::opening(1);
+    looks([0; 78], none, record(1, zero.with(3, 1), zero, zero), 3);
+    looks([0; 78], none, record(1, zero, zero.with(1, 1), zero), 3);
+    looks([0; 78], none, record(1, zero, zero, zero.with(1, 1)), 3);
+    looks([0; 78], record(1, zero.with(1, 1), zero, zero), none, 3);
+}
+
+// 26, then 27, in row 2 and in row 3; known row 2 stands from word 30 on, row 3 from word 33.
+fn other_pairs() {
+    let zero = Row::ZERO;
+    let none = Record::opening(1);
+    let mut known = [0u32; 78];
+    known[30] = 1;
+    looks(known, record(1, zero, zero.with(3, 1), zero), none, 3);
+    known[30] = 0;
+    known[33] = 1;
+    looks(known, record(1, zero, zero, zero.with(3, 1)), none, 3);
+    looks([0; 78], record(1, zero, zero.with(2, 1), zero), none, 3);
+    looks([0; 78], record(1, zero, zero, zero.with(2, 1)), none, 3);
 }
 
 fn main() {
     p9();
     p10();
     p11();
+    slot_pairs();
+    stored_pairs();
+    other_pairs();
 }

@@ -6,11 +6,13 @@ use lib.Dec.{eqb, leb}
 use borrow.Author.Tests.{eqb-true}
 use Rattle.lists.specs.Functions.{put, inside, within}
 use Rattle.lists.proofs.Functions.{on, each-same, inside-in, inside-low, inside-high, within-at, within-off}
+use Rattle.lists.proofs.Looked.{looked-same}
 use Rattle.model.proofs.Joined.{joined-slot, joined-other}
 use Rattle.model.specs.Rows.{Row, Matrix, zeroRow, below, matrixBelow, comparable, larger}
 use Rattle.model.specs.Records.{Rec, matrixWithin, recordWithin}
 use Rattle.model.specs.RecordWords.{matrixOf, valueOf}
-use Rattle.model.specs.Member.{Member, check22, check23, check25, check26, check24, check27, haltNumber, joined}
+use Rattle.model.specs.Member.{Member, entry22, row26, row27, check22, check23, check25, check26, check24, check27, haltNumber, joined}
+use Rattle.model.specs.Pairs.{otherwise, row25, rowPairs25, pairs22, pairs25, pairs26, pairs27, haltPairs}
 use Rattle.laws.proofs.Records.{matrixOf-same, matrixOf-words, matrixWord-of, valueOf-same, valueOf-next, valueOf-at}
 
 -- What was read from words is all there.
@@ -34,34 +36,65 @@ pub below-same : (n : ℕ) (a b c d : Row) → ((k : ℕ) → 1 ≤ k → k ≤ 
 unfolding below
 below-same n a b c d e f = each-same n (λ k. leb (a k) (b k)) (λ k. leb (c k) (d k)) (λ k p q. rw (e k p q, f k p q))
 
+-- Each check's test at a place, and so the check and the pairs that it looks at.
+
 module _ (n i r : ℕ) (low : 1 ≤ i) (high : i ≤ n) (least : 1 ≤ r) (most : r ≤ n) where
   module _ (known newest : Matrix) where
+    sent : Matrix
+    sent = matrixWithin n newest
+
+    entry22-within : (k : ℕ) → 1 ≤ k → k ≤ n → entry22 i r known sent k ≡ entry22 i r known newest k
+    unfolding sent
+    entry22-within k p q = ap (λ x. eqb k i || leb (known r k) x) (matrixWithin-at n newest r k least most p q)
+
     pub check22-within : check22 n i r known (matrixWithin n newest) ≡ check22 n i r known newest
-    unfolding check22
-    check22-within = each-same n (λ k. eqb k i || leb (known r k) (matrixWithin n newest r k))
-        (λ k. eqb k i || leb (known r k) (newest r k))
-        (λ k p q. ap (λ x. eqb k i || leb (known r k) x) (matrixWithin-at n newest r k least most p q))
+    unfolding check22 sent
+    check22-within = each-same n (entry22 i r known sent) (entry22 i r known newest) entry22-within
+
+    pub pairs22-within : pairs22 n i r known (matrixWithin n newest) ≡ pairs22 n i r known newest
+    unfolding pairs22 sent
+    pairs22-within = looked-same n (entry22 i r known sent) (entry22 i r known newest) (otherwise i 1) entry22-within
+
+    row26-within : (j : ℕ) → 1 ≤ j → j ≤ n → row26 n r known sent j ≡ row26 n r known newest j
+    unfolding sent comparable
+    row26-within j p q = rw (
+      below-same n (known j) (matrixWithin n newest j) (known j) (newest j) (λ k s t. refl)
+          (λ k s t. matrixWithin-at n newest j k p q s t),
+      below-same n (matrixWithin n newest j) (known j) (newest j) (known j) (λ k s t. matrixWithin-at n newest j k p q s t)
+          (λ k s t. refl),
+    )
 
     pub check26-within : check26 n r known (matrixWithin n newest) ≡ check26 n r known newest
-    unfolding check26 comparable
-    check26-within = each-same n
-        (λ j. eqb j r || (below n (known j) (matrixWithin n newest j) || below n (matrixWithin n newest j) (known j)))
-        (λ j. eqb j r || (below n (known j) (newest j) || below n (newest j) (known j)))
-        (λ j p q. rw (
-          below-same n (known j) (matrixWithin n newest j) (known j) (newest j) (λ k s t. refl)
-              (λ k s t. matrixWithin-at n newest j k p q s t),
-          below-same n (matrixWithin n newest j) (known j) (newest j) (known j) (λ k s t. matrixWithin-at n newest j k p q s t)
-              (λ k s t. refl),
-        ))
+    unfolding check26 sent
+    check26-within = each-same n (row26 n r known sent) (row26 n r known newest) row26-within
+
+    pub pairs26-within : pairs26 n r known (matrixWithin n newest) ≡ pairs26 n r known newest
+    unfolding pairs26 sent
+    pairs26-within = looked-same n (row26 n r known sent) (row26 n r known newest) (otherwise r n) row26-within
+
+    -- the stored matrix stands for the known one
+    row25-within : (j : ℕ) → 1 ≤ j → j ≤ n → row25 n (matrixWithin n known) sent j ≡ row25 n known newest j
+    unfolding sent
+    row25-within j p q = below-same n (matrixWithin n known j) (matrixWithin n newest j) (known j) (newest j)
+        (λ k s t. matrixWithin-at n known j k p q s t) (λ k s t. matrixWithin-at n newest j k p q s t)
+
+    matrixBelow-within : matrixBelow n (matrixWithin n known) (matrixWithin n newest) ≡ matrixBelow n known newest
+    unfolding matrixBelow sent
+    matrixBelow-within = each-same n (row25 n (matrixWithin n known) sent) (row25 n known newest) row25-within
 
     pub check25-within : check25 n r (matrixWithin n known) (matrixWithin n newest) ≡ check25 n r known newest
-    unfolding check25 matrixBelow
+    unfolding check25
     check25-within = rw (
-      each-same n (λ j. below n (matrixWithin n known j) (matrixWithin n newest j)) (λ j. below n (known j) (newest j))
-          (λ j p q. below-same n (matrixWithin n known j) (matrixWithin n newest j) (known j) (newest j)
-          (λ k s t. matrixWithin-at n known j k p q s t) (λ k s t. matrixWithin-at n newest j k p q s t)),
+      matrixBelow-within,
       matrixWithin-at n known r r least most least most,
       matrixWithin-at n newest r r least most least most,
+    )
+
+    pub pairs25-within : pairs25 n (matrixWithin n known) (matrixWithin n newest) ≡ pairs25 n known newest
+    unfolding pairs25 rowPairs25 sent
+    pairs25-within = rw (
+      matrixBelow-within,
+      looked-same n (row25 n (matrixWithin n known) sent) (row25 n known newest) (λ j. n) row25-within,
     )
 
   module _ (accepted : ℕ → ℕ) (newest : Matrix) where
@@ -69,22 +102,41 @@ module _ (n i r : ℕ) (low : 1 ≤ i) (high : i ≤ n) (least : 1 ≤ r) (most 
     unfolding check23
     check23-within = rw (matrixWithin-at n newest r i least most low high)
 
+    row27-within : (j : ℕ) → 1 ≤ j → j ≤ n → row27 i r accepted (matrixWithin n newest) j ≡ row27 i r accepted newest j
+    row27-within j p q = ap (λ x. eqb j r || leb x (accepted j)) (matrixWithin-at n newest j i p q low high)
+
     pub check27-within : check27 n i r accepted (matrixWithin n newest) ≡ check27 n i r accepted newest
     unfolding check27
-    check27-within = each-same n (λ j. eqb j r || leb (matrixWithin n newest j i) (accepted j))
-        (λ j. eqb j r || leb (newest j i) (accepted j))
-        (λ j p q. ap (λ x. eqb j r || leb x (accepted j)) (matrixWithin-at n newest j i p q low high))
+    check27-within = each-same n (row27 i r accepted (matrixWithin n newest)) (row27 i r accepted newest) row27-within
 
-pub haltNumber-within : (n i : ℕ) (m : Member) (newest stored : Rec) (seals : ℕ) → 1 ≤ i → i ≤ n → 1 ≤ m .slot → m .slot ≤ n
-    → haltNumber n i m (recordWithin n newest) (recordWithin n stored) seals ≡ haltNumber n i m newest stored seals
-unfolding haltNumber recordWithin check24
-haltNumber-within n i m newest stored seals low high least most = rw (
-  check22-within n i (m .slot) low high least most (m .known) (newest .matrix),
-  check23-within n i (m .slot) low high least most (m .accepted) (newest .matrix),
-  check25-within n i (m .slot) low high least most (stored .matrix) (newest .matrix),
-  check26-within n i (m .slot) low high least most (m .known) (newest .matrix),
-  check27-within n i (m .slot) low high least most (m .accepted) (newest .matrix),
-)
+    pub pairs27-within : pairs27 n i r accepted (matrixWithin n newest) ≡ pairs27 n i r accepted newest
+    unfolding pairs27
+    pairs27-within =
+        looked-same n (row27 i r accepted (matrixWithin n newest)) (row27 i r accepted newest) (otherwise r 1) row27-within
+
+module _ (n i : ℕ) (m : Member) (newest stored : Rec) (seals : ℕ)
+    (low : 1 ≤ i) (high : i ≤ n) (least : 1 ≤ m .slot) (most : m .slot ≤ n) where
+  pub haltNumber-within :
+      haltNumber n i m (recordWithin n newest) (recordWithin n stored) seals ≡ haltNumber n i m newest stored seals
+  unfolding haltNumber recordWithin check24
+  haltNumber-within = rw (
+    check22-within n i (m .slot) low high least most (m .known) (newest .matrix),
+    check23-within n i (m .slot) low high least most (m .accepted) (newest .matrix),
+    check25-within n i (m .slot) low high least most (stored .matrix) (newest .matrix),
+    check26-within n i (m .slot) low high least most (m .known) (newest .matrix),
+    check27-within n i (m .slot) low high least most (m .accepted) (newest .matrix),
+  )
+
+  pub haltPairs-within :
+      haltPairs n i m (recordWithin n newest) (recordWithin n stored) seals ≡ haltPairs n i m newest stored seals
+  unfolding haltPairs recordWithin
+  haltPairs-within = rw (
+    haltNumber-within,
+    pairs22-within n i (m .slot) low high least most (m .known) (newest .matrix),
+    pairs25-within n i (m .slot) low high least most (stored .matrix) (newest .matrix),
+    pairs26-within n i (m .slot) low high least most (m .known) (newest .matrix),
+    pairs27-within n i (m .slot) low high least most (m .accepted) (newest .matrix),
+  )
 
 -- The matrix that is built.
 

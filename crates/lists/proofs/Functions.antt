@@ -6,7 +6,7 @@ use native.Mathlib.Numerals.{add-one}
 use native.Mathlib.Omega.{arith}
 use lib.Dec.{eqb, leb, ltb}
 use borrow.Author.Tests.{eq-eqb, ne-eqb, le-leb, lt-leb, lt-ltb, le-ltb, leb-true, leb-false, ltb-true, ltb-false, eqb-true, eqb-false}
-use Rattle.lists.specs.Functions.{put, pasted, from, inside, each, within, numbered}
+use Rattle.lists.specs.Functions.{put, pasted, from, inside, Within, each, within, numbered}
 
 -- A test's two outcomes, each with its equation: a case split that keeps what was tested.
 pub on {ℓ} : {B : Type ℓ} (b : Bool) → (b ≡ true → B) → (b ≡ false → B) → B
@@ -169,6 +169,10 @@ each-same (suc n) s t h =
 pub inside-in : (n i : ℕ) → 1 ≤ i → i ≤ n → inside n i ≡ true
 unfolding inside
 inside-in n i p q = both (le-leb 1 i p) (le-leb i n q)
+
+-- one of 1 to n is one of 1 to 12
+pub widened : (n k : ℕ) → n ≤ 12 → Within n k → Within 12 k
+widened n k h w = record { least = w .least; most = omega (arith, w .most) }
 
 pub inside-zero : (n : ℕ) → inside n 0 ≡ false
 unfolding inside

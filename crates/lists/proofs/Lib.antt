@@ -1,4 +1,5 @@
 pub mod Functions
+pub mod Looked
 pub mod Parts
 pub mod Pieces
 pub mod Refusals

@@ -39,3 +39,9 @@ module _ {A : Type 0} where
 unfoldable pub each : ℕ → (ℕ → Bool) → Bool
 each zero test = true
 each (suc n) test = each n test && test (suc n)
+
+-- Of the places 1 to n in turn, a place is looked at where each before it passed its test, so that the first that fails is the last. What
+-- all those cost together, where place k costs `cost k`.
+unfoldable pub looked : ℕ → (ℕ → Bool) → (ℕ → ℕ) → ℕ
+looked zero test cost = 0
+looked (suc n) test cost = looked n test cost + cond (each n test) (cost (suc n)) 0

@@ -1,5 +1,5 @@
 -- What is said once of a member's block in the code's hands.
-use Prim.Native.Nat.{ℕ, _+_, _-_, _*_, _<_}
+use Prim.Native.Nat.{ℕ, _+_, _-_, _*_, _≤_, _<_}
 use native.Mathlib.Omega.{arith}
 use mathlib.Core.Path.{_≡_, refl, sym, ap, ap₂, _∙_}
 use mathlib.Core.Bool.{Bool, true, false, _&&_}
@@ -15,11 +15,13 @@ use Rattle.model.specs.Records.{Rec, read, zeroValue, matrixWithin, recordWithi
 use Rattle.model.specs.RecordWords.{valueAt, matrixAt, recordSize, rowOf, matrixOf, valueOf, recordOf, recordWords}
 use Rattle.model.specs.Member.{Member, moved, haltNumber, joined, ownRecord, passed, failed, replied, completed, dropped, tookOver}
 use Rattle.model.specs.Member.{returnedBy}
+use Rattle.model.specs.Pairs.{haltPairs, mostPairs}
+use Rattle.model.proofs.PairClaims.{pairs-as-asked}
 use Rattle.model.specs.Board.{sentRecord}
 use Rattle.model.specs.Table.{phaseAt, haltAt, slotAt, operationAt, ownAt, acceptedAt, lastAt, pendingAt, knownAt, firstAt, secondAt}
 use Rattle.model.specs.Table.{blockSize, memberOf}
 use Rattle.laws.proofs.Records.{recordOf-parts, recordOf-same, recordOf-words, within-read}
-use Rattle.laws.proofs.Replies.{matrix-all, value-all, joined-within, haltNumber-within}
+use Rattle.laws.proofs.Replies.{matrix-all, value-all, joined-within, haltNumber-within, haltPairs-within}
 use Rattle.laws.proofs.Steps.{Holds, holds-set, holds-copied, count-of, kept, moved-by, pasted-off}
 use Rattle.rows.specs.declared.Row.{Row}
 use Rattle.rows.specs.Meaning.{matrixIn}
@@ -141,6 +143,19 @@ module _ {n i : ℕ} {l : List ℕ} (running : Running n l) (member : Within n i
       ≡ passed n i (memberOf n (words l)) (recordWithin n newest) (recordWithin n stored)
   unfolding replied
   replied-passed h = rw (← halted, eq-eqb number 0 h)
+
+-- the pairs that the checks compared, of the records as a board of n has them
+pub replied-pairs : {n i : ℕ} {l : List ℕ} → Running n l → Within n i → (newest stored : Rec) (seals : ℕ)
+    → haltPairs n i (memberOf n (words l)) newest stored seals
+    ≡ haltPairs n i (memberOf n (words l)) (recordWithin n newest) (recordWithin n stored) seals
+replied-pairs {n} {i} {l} running member newest stored seals =
+    let r = running .slot in
+    sym (haltPairs-within n i (memberOf n (words l)) newest stored seals (member .least) (member .most) (r .least) (r .most))
+
+pub few-pairs : {n i : ℕ} {l : List ℕ} → Running n l → Within n i → (newest stored : Rec) (seals : ℕ) {pairs : ℕ}
+    → pairs ≡ haltPairs n i (memberOf n (words l)) newest stored seals → pairs ≤ mostPairs n
+few-pairs {n} {i} {l} running member newest stored seals e =
+    rw e (pairs-as-asked n i (memberOf n (words l)) newest stored member (running .slot) seals .most)
 
 -- The record that a commit sends, as the code builds it.
 pub sent-built : (n i : ℕ) (w : ℕ → ℕ) (value : List ℕ) (matrix : List Row) {places : Places} → LayoutOf n places → Within n (w slotAt)

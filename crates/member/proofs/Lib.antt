@@ -1,3 +1,4 @@
 pub mod Sizes
 pub mod Refusals
+pub mod InOrder
 pub mod Laws

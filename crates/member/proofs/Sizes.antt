@@ -34,10 +34,7 @@ pub second-room : (n : ℕ) → secondAt n + recordSize n ≤ blockSize n
 unfolding blockSize
 second-room n = omega arith
 
--- One of 1 to n: also one of 1 to 12; and the word of a running operation's slot is one.
-pub widened : (n k : ℕ) → n ≤ 12 → Within n k → Within 12 k
-widened n k h w = record { least = w .least; most = omega arith }
-
+-- The word of a running operation's slot is one of 1 to n.
 pub running-slot : (n : ℕ) (l : List ℕ) → Running n l → Within n (words l slotAt)
 unfolding memberOf
 running-slot n l r = r .slot

@@ -1,4 +1,5 @@
 // The member half: begin, take a reply, take an outcome, crash, on the member's own part of the table.
+ghost use Prim.Native.Nat.{_≤_};
 ghost use mathlib.Core.Path.{_≡_};
 ghost use Rattle.lists.specs.Parts.{words};
 ghost use Rattle.model.specs.Kinds.{concur};
@@ -6,7 +7,8 @@ ghost use mathlib.Core.Bool.{false};
 ghost use mathlib.Core.Option.{none};
 ghost use Rattle.model.specs.Records.{zeroValue};
 ghost use Rattle.model.specs.RecordWords.{valueOf};
-ghost use Rattle.model.specs.Halves.{memberBeginNumber, memberBeginWords, replyNumber, replyWords};
+ghost use Rattle.model.specs.Halves.{memberBeginNumber, memberBeginWords, replyNumber, replyPairs, replyWords};
+ghost use Rattle.model.specs.Pairs.{mostPairs};
 ghost use Rattle.model.specs.Halves.{outcomeNumber, outcomeWords, outcomeReturns, memberCrashNumber, memberCrashWords};
 ghost use Rattle.records.specs.Meaning.{recordFor};
 ghost use Rattle.member.specs.Results.{returnedIn};
@@ -23,6 +25,12 @@ use numbers::crash_number;
 use numbers::outcome_number;
 use numbers::reply_number;
 use records::Record;
+
+// What taking a reply hands back: its number, and how many pairs of counts the checks compared; none where it is refused.
+pub struct Replied {
+    pub number: u32,
+    pub pairs: u32,
+}
 
 // What taking an outcome hands back: its number, and whether a value is returned, and which; zero where there is none.
 pub struct Outcome {
@@ -70,16 +78,18 @@ pub fn take_reply(
     newest: Record,
     stored: Record,
     seals: u32,
-) -> u32
-    ensures { λ r. ⌜ r ≡ replyNumber n member (now (block .entry)) (recordFor n newest) (recordFor n stored) seals ⌝ }
-    ensures { λ r. ⌜ now (block .exit) ≡ replyWords n member (now (block .entry)) (recordFor n newest) (recordFor n stored) seals ⌝ }
+) -> Replied
+    ensures { λ r. ⌜ r .number ≡ replyNumber n member (now (block .entry)) (recordFor n newest) (recordFor n stored) seals ⌝ }
+    ensures { λ r. ⌜ r .pairs ≡ replyPairs n member (now (block .entry)) (recordFor n newest) (recordFor n stored) seals ⌝ }
+    ensures { λ r. ⌜ r .pairs ≤ mostPairs n ⌝ }
+    ensures { λ _. ⌜ now (block .exit) ≡ replyWords n member (now (block .entry)) (recordFor n newest) (recordFor n stored) seals ⌝ }
 {
     let number = reply_number(block, n, member, newest, stored, seals);
     if number != 0 {
-        return number;
+        return Replied { number, pairs: 0 };
     }
-    steps::reply(block, n as usize, member, newest, stored, seals);
-    0
+    let pairs = steps::reply(block, n as usize, member, newest, stored, seals);
+    Replied { number: 0, pairs }
 }
 
 pub fn take_outcome(block: &mut [u32], n: u32, member: u32, result: u32) -> Outcome

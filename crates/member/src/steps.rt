@@ -4,6 +4,7 @@ ghost use Prim.Native.Nat.{_+_, _<_, _≤_, _^_};
 ghost use Rattle.lists.specs.Parts.{words};
 ghost use Rattle.model.specs.RecordWords.{valueOf};
 ghost use Rattle.model.specs.Member.{begun, answered, replied, judged, outcome, returnedBy, crashedOf};
+ghost use Rattle.model.specs.Pairs.{haltPairs};
 ghost use Rattle.model.specs.Kinds.{concur};
 ghost use Rattle.model.specs.Numbers.{beginAnswer, deliverAnswer, crashAnswer};
 ghost use Rattle.model.specs.Board.{sentRecord};
@@ -13,7 +14,7 @@ ghost use Rattle.lists.specs.Functions.{Within};
 ghost use Rattle.member.specs.Needs.{Block, Running};
 ghost use Rattle.member.specs.Results.{Taken};
 use crate::Outcome;
-use crate::halts::halt_number;
+use crate::halts::halt_of;
 use crate::layout::CRASHED_AT;
 use crate::layout::HALT_AT;
 use crate::layout::OPERATION_AT;
@@ -191,20 +192,30 @@ pub fn answer(block: &mut [u32], n: usize, newest: Record, stored: Record)
     note(block, n, 2, newest, stored);
 }
 
-// A reply taken: the checks, and what follows from them.
-pub fn reply(block: &mut [u32], n: usize, member: u32, newest: Record, stored: Record, seals: u32)
+// A reply taken: the checks, and what follows from them. It answers the pairs of counts that the checks compared.
+pub fn reply(
+    block: &mut [u32],
+    n: usize,
+    member: u32,
+    newest: Record,
+    stored: Record,
+    seals: u32,
+) -> u32
     requires { ⌜ (Running n (now block)) × (Within n member) ⌝ }
+    ensures { λ r. let m = memberIn n (now (block .entry)) in
+        ⌜ r ≡ haltPairs n member m (recordFor n newest) (recordFor n stored) seals ⌝ }
     ensures { λ _. let m = memberIn n (now (block .entry)) in
         ⌜ memberIn n (now (block .exit)) ≡ replied n member m (recordFor n newest) (recordFor n stored) seals ⌝ }
 {
     let at = layout(n);
     let known = load_matrix(block, at.known, n);
-    let number = halt_number(block, n, member as usize, known, newest, stored, seals);
-    if number != 0 {
-        fail(block, n, number);
-        return;
+    let found = halt_of(block, n, member as usize, known, newest, stored, seals);
+    if found.number != 0 {
+        fail(block, n, found.number);
+        return found.pairs;
     }
     pass(block, n, member, known, newest, stored);
+    found.pairs
 }
 
 // The reply in the block's own two message records, whose seals held.
@@ -217,7 +228,7 @@ pub fn reply_noted(block: &mut [u32], n: usize, member: u32)
     let known = load_matrix(block, at.known, n);
     let newest = load_record(block, at.first, n);
     let stored = load_record(block, at.second, n);
-    let number = halt_number(block, n, member as usize, known, newest, stored, 3);
+    let number = halt_of(block, n, member as usize, known, newest, stored, 3).number;
     if number != 0 {
         fail(block, n, number);
         return;

@@ -1,5 +1,7 @@
 pub mod Rows
 pub mod RowClaims
+pub mod Pairs
+pub mod PairClaims
 pub mod Order
 pub mod Joined
 pub mod NumberClaims

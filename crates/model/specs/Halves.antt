@@ -12,6 +12,7 @@ use Rattle.model.specs.Records.{Value, Rec}
 use Rattle.model.specs.Kinds.{Kind, isSize, fitFields}
 use Rattle.model.specs.Numbers.{orElse, fieldsNumber, beginAnswer, crashAnswer}
 use Rattle.model.specs.Member.{Member, begun, replied, outcome, returnedBy, crashedOf}
+use Rattle.model.specs.Pairs.{haltPairs}
 use Rattle.model.specs.Host.{submitted, wins, entryAfter, storedAfter}
 use Rattle.model.specs.Table.{memberIn, memberWords, blockNumber, hostIn, storedIn, hostWords, entriesNumber}
 
@@ -56,6 +57,11 @@ replyNumber n i l newest stored seals =
 unfoldable pub replyWords : ℕ → ℕ → List ℕ → Rec → Rec → ℕ → List ℕ
 replyWords n i l newest stored seals =
     unlessRefused (replyNumber n i l newest stored seals) l (memberWords n (replied n i (memberIn n l) newest stored seals))
+
+-- the pairs of counts that the checks looked at; where the call is refused, nothing was looked at
+unfoldable pub replyPairs : ℕ → ℕ → List ℕ → Rec → Rec → ℕ → ℕ
+replyPairs n i l newest stored seals =
+    cond (eqb (replyNumber n i l newest stored seals) 0) (haltPairs n i (memberIn n l) newest stored seals) 0
 
 -- an outcome is 1 accepted, 2 aborted
 unfoldable pub outcomeNumber : ℕ → ℕ → List ℕ → ℕ → ℕ

@@ -5,6 +5,8 @@ pub mod Kinds
 pub mod Numbers
 pub mod NumberClaims
 pub mod Member
+pub mod Pairs
+pub mod PairClaims
 pub mod Host
 pub mod Board
 pub mod Runs

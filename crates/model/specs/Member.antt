@@ -92,8 +92,11 @@ unfoldable pub check21 : ℕ → Bool
 check21 seals = eqb seals 3
 
 -- 22 (3.8, first part) "for some k other than m, known row r exceeds the newest record's at k"
+abbrev pub entry22 : ℕ → ℕ → Matrix → Matrix → ℕ → Bool
+entry22 i r known newest k = eqb k i || leb (known r k) (newest r k)
+
 unfoldable pub check22 : ℕ → ℕ → ℕ → Matrix → Matrix → Bool
-check22 n i r known newest = each n (λ k. eqb k i || leb (known r k) (newest r k))
+check22 n i r known newest = each n (entry22 i r known newest)
 
 -- 23 (3.8, second part) "the newest record's row r at m is not the accepted count"
 unfoldable pub check23 : ℕ → ℕ → (ℕ → ℕ) → Matrix → Bool
@@ -108,12 +111,18 @@ unfoldable pub check25 : ℕ → ℕ → Matrix → Matrix → Bool
 check25 n r stored newest = matrixBelow n stored newest && eqb (stored r r) (newest r r)
 
 -- 26 (3.11, 3.12) "in another row, known and newest are not comparable"
+abbrev pub row26 : ℕ → ℕ → Matrix → Matrix → ℕ → Bool
+row26 n r known newest j = eqb j r || comparable n (known j) (newest j)
+
 unfoldable pub check26 : ℕ → ℕ → Matrix → Matrix → Bool
-check26 n r known newest = each n (λ j. eqb j r || comparable n (known j) (newest j))
+check26 n r known newest = each n (row26 n r known newest)
 
 -- 27, amendment 2: "in another row, the newest record's entry for m exceeds m's accepted count there"
+abbrev pub row27 : ℕ → ℕ → (ℕ → ℕ) → Matrix → ℕ → Bool
+row27 i r accepted newest j = eqb j r || leb (newest j i) (accepted j)
+
 unfoldable pub check27 : ℕ → ℕ → ℕ → (ℕ → ℕ) → Matrix → Bool
-check27 n i r accepted newest = each n (λ j. eqb j r || leb (newest j i) (accepted j))
+check27 n i r accepted newest = each n (row27 i r accepted newest)
 
 -- the number of the first check that fails, 0 where all pass
 unfoldable pub haltNumber : ℕ → ℕ → Member → Rec → Rec → ℕ → ℕ

@@ -65,20 +65,6 @@ module _ (n : ℕ) (a b : Row) {d : Comparison} {t : Bool} where
   pub answer-comparable : d ≡ compared n (rowIn a) (rowIn b) → t ≡ crossed d → not t ≡ comparable n (rowIn a) (rowIn b)
   answer-comparable e h = ap not (h ∙ ap crossed e) ∙ sym (rows-compared n (rowIn a) (rowIn b) .for26)
 
--- Matrices row by row.
-
-pub rows-below-more : (a b : List Row) (n j : ℕ) → j < 12 → each j (λ k. below n (matrixIn a k) (matrixIn b k)) ≡ true
-    → below n (rowIn (getD a j noRow)) (rowIn (getD b j noRow)) ≡ true → each (j + 1) (λ k. below n (matrixIn a k) (matrixIn b k)) ≡ true
-rows-below-more a b n j h p q =
-    each-more j (λ k. below n (matrixIn a k) (matrixIn b k)) p (rw (row-at a j h, row-at b j h) q)
-
-pub rows-below-fails : (a b : List Row) (n j : ℕ) → n ≤ 12 → j < n
-    → below n (rowIn (getD a j noRow)) (rowIn (getD b j noRow)) ≡ false → matrixBelow n (matrixIn a) (matrixIn b) ≡ false
-unfolding matrixBelow
-rows-below-fails a b n j h p q =
-    let g : j < 12 = omega arith in
-    each-fails n (λ k. below n (matrixIn a k) (matrixIn b k)) (j + 1) (omega arith) (omega arith) (rw (row-at a j g, row-at b j g) q)
-
 -- Zero: `Row::ZERO`, and a matrix of it.
 
 abbrev pub zeroCounts : Row

@@ -2,6 +2,7 @@
 ghost use mathlib.Core.Path.{_≡_};
 ghost use Prim.Native.Nat.{min};
 ghost use Rattle.model.specs.Rows.{compared, crossed, equalOrBelow, larger as largerOf, matrixBelow, withCount, zeroRow};
+ghost use Rattle.model.specs.Pairs.{rowPairs25};
 ghost use Rattle.rows.specs.Meaning.{rowIn, matrixIn, comparisonIn};
 
 // A row of a working copy: a count for each of twelve members, the unused ones zero.
@@ -15,6 +16,18 @@ pub enum Comparison {
     Below,
     Above,
     Crossed,
+}
+
+// What a comparison answers, and how many pairs of counts it compared.
+pub struct Compared {
+    pub answer: Comparison,
+    pub pairs: u32,
+}
+
+// A test of counts: whether it passed, and how many pairs of counts it compared.
+pub struct Check {
+    pub passed: bool,
+    pub pairs: u32,
 }
 
 impl Comparison {
@@ -76,31 +89,46 @@ impl Row {
     }
 
     // How this row stands to the other. All n entries are looked at, and two flags decide at the end.
-    pub fn compare(self, other: Row, n: usize) -> Comparison
-        ensures { λ r. ⌜ comparisonIn r ≡ compared (min n 12) (rowIn self) (rowIn other) ⌝ }
+    pub fn compare(self, other: Row, n: usize) -> Compared
+        ensures { λ r. ⌜ comparisonIn (r .answer) ≡ compared (min n 12) (rowIn self) (rowIn other) ⌝ }
+        ensures { λ r. ⌜ r .pairs ≡ min n 12 ⌝ }
     {
         let last = entries(n);
         let mut exceeds = false;
         let mut exceeded = false;
+        let mut pairs = 0;
         let mut i = 0;
         while i < last {
             let a = self.counts[i];
             let b = other.counts[i];
             exceeds = exceeds | (b < a);
             exceeded = exceeded | (a < b);
+            pairs += 1;
             i += 1;
         }
         if exceeds {
             if exceeded {
-                Comparison::Crossed
+                Compared {
+                    answer: Comparison::Crossed,
+                    pairs,
+                }
             } else {
-                Comparison::Above
+                Compared {
+                    answer: Comparison::Above,
+                    pairs,
+                }
             }
         } else {
             if exceeded {
-                Comparison::Below
+                Compared {
+                    answer: Comparison::Below,
+                    pairs,
+                }
             } else {
-                Comparison::Equal
+                Compared {
+                    answer: Comparison::Equal,
+                    pairs,
+                }
             }
         }
     }
@@ -109,25 +137,33 @@ impl Row {
     pub fn larger(self, other: Row, n: usize) -> Row
         ensures { λ r. ⌜ rowIn r ≡ largerOf (min n 12) (rowIn self) (rowIn other) ⌝ }
     {
-        if self.compare(other, n).equal_or_below() {
-            other
-        } else {
-            self
-        }
+        let answer = self.compare(other, n).answer;
+        if answer.equal_or_below() { other } else { self }
     }
 }
 
-// Is each row below the other matrix's?
-pub fn matrix_below(a: [Row; 12], b: [Row; 12], n: usize) -> bool
-    ensures { λ r. ⌜ r ≡ matrixBelow (min n 12) (matrixIn a) (matrixIn b) ⌝ }
+// Is each row below the other matrix's? The row that is not is the last one looked at.
+pub fn matrix_below(a: [Row; 12], b: [Row; 12], n: usize) -> Check
+    ensures { λ r. ⌜ r .passed ≡ matrixBelow (min n 12) (matrixIn a) (matrixIn b) ⌝ }
+    ensures { λ r. ⌜ r .pairs ≡ rowPairs25 (min n 12) (matrixIn a) (matrixIn b) ⌝ }
 {
     let last = entries(n);
+    let mut pairs = 0;
     let mut j = 0;
     while j < last {
-        if !a[j].compare(b[j], n).equal_or_below() {
-            return false;
+        let row = a[j].compare(b[j], n);
+        let answer = row.answer;
+        pairs += row.pairs;
+        if !answer.equal_or_below() {
+            return Check {
+                passed: false,
+                pairs,
+            };
         }
         j += 1;
     }
-    true
+    Check {
+        passed: true,
+        pairs,
+    }
 }

@@ -1,5 +1,5 @@
-// Rows compared four ways, as they run. Each line: how the first row stands to the second, and the first two counts of the larger; what is
-// printed is compared with the file stdout.
+// Rows compared four ways, as they run. Each line: how the first row stands to the second, how many pairs were compared, and the first two
+// counts of the larger; what is printed is compared with the file stdout.
 use rows::Comparison;
 use rows::Row;
 
@@ -17,18 +17,20 @@ fn print_answer(c: Comparison) {
     ;
 }
 
-fn print_counts(a: u32, b: u32) {
+fn print_number(a: u32) {
     io::write_all(1, b" ");
     io::print_decimal(1, a as u64);
-    io::write_all(1, b" ");
-    io::print_decimal(1, b as u64);
-    io::write_all(1, b"\n");
 }
 
 fn compare(a: Row, b: Row, n: usize) {
-    print_answer(a.compare(b, n));
+    let compared = a.compare(b, n);
+    let answer = compared.answer;
     let larger = a.larger(b, n);
-    print_counts(larger.counts[0], larger.counts[1]);
+    print_answer(answer);
+    print_number(compared.pairs);
+    print_number(larger.counts[0]);
+    print_number(larger.counts[1]);
+    io::write_all(1, b"\n");
 }
 
 // The four answers; counts that a sign would turn round.

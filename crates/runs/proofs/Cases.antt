@@ -7,7 +7,7 @@ use native.Mathlib.Omega.{arith}
 use lib.Dec.{eqb}
 use lib.ListN.{length, getD}
 use borrow.Author.Tests.{eqb-true}
-use Rattle.lists.specs.Functions.{put, from, within, inside, each}
+use Rattle.lists.specs.Functions.{put, from, within, inside, each, looked}
 use Rattle.lists.specs.Parts.{tabulate}
 use Rattle.lists.specs.Pieces.{laid}
 use Rattle.lists.proofs.Functions.{first, second}
@@ -17,6 +17,7 @@ use Rattle.model.specs.Kinds.{isOperation, barred, becomesStored}
 use Rattle.model.specs.Numbers.{fieldsNumber, beginAnswer, deliverAnswer, crashAnswer}
 use Rattle.model.specs.Member.{idle, begun, answered, check21, check22, check23, check24, check25, check26, check27, haltNumber, joined}
 use Rattle.model.specs.Member.{ownRecord, passed, failed, replied, judged, completed, tookOver, dropped, outcome, returnedBy, crashedOf}
+use Rattle.model.specs.Pairs.{pairs22, pairs23, rowPairs25, pairs25, pairs26, pairs27, ifMade, haltPairs}
 use Rattle.model.specs.Host.{submitted, wins, entryAfter, storedAfter}
 use Rattle.model.specs.Board.{openingEntry, opened, withMember, boardBegun, submitTaken, replyTaken, sentRecord, commitTaken}
 use Rattle.model.specs.Board.{outcomeTaken, boardDelivered, boardReturned, boardCrashed}
@@ -31,17 +32,17 @@ use Rattle.model.specs.TableCalls.{openNumber, openWords}
 use Rattle.model.specs.Messages.{kindOf, numberBytes, byteIn, headed, recordByte, recordLength, recordBytes, fieldBytes, framed, encode}
 use Rattle.model.specs.Script.{caller}
 use Rattle.runs.specs.Case.{left, changed, opensOf, answerTo, lastWord, line, printed, rowsOf, recordLine, recordLines, begunLine}
-use Rattle.runs.specs.Case.{decidedLine, submitLine, unless, failingOf, takingOf, found, every, alike, Case, Holds, holds}
+use Rattle.runs.specs.Case.{decidedLine, submitLine, unless, failingOf, takingOf, lookingOf, found, every, alike, Case, Holds, holds}
 use Rattle.runs.specs.Cases.{cases, example}
 
 pub all-pass : every holds cases ≡ true
-unfolding put from within inside each tabulate zeroRow zeroMatrix below matrixBelow comparable larger zeroValue zeroRecord opening
+unfolding put from within inside each looked tabulate zeroRow zeroMatrix below matrixBelow comparable larger zeroValue zeroRecord opening
     isOperation barred becomesStored fieldsNumber beginAnswer deliverAnswer crashAnswer idle begun answered check21 check22 check23 check24
-    check25 check26 check27 haltNumber joined ownRecord passed failed replied judged completed tookOver dropped outcome returnedBy
+    check25 check26 check27 haltNumber pairs22 pairs23 rowPairs25 pairs25 pairs26 pairs27 ifMade haltPairs joined ownRecord passed failed replied judged completed tookOver dropped outcome returnedBy
     crashedOf submitted wins entryAfter storedAfter openingEntry opened withMember boardBegun submitTaken replyTaken sentRecord
     commitTaken outcomeTaken boardDelivered boardReturned boardCrashed answerOf done doneReturns after seenAt run left caller
     lastWord line printed rowsOf recordLine recordLines begunLine decidedLine submitLine nothingYet noOp begunOp submittedOp submitOf
-    decidedOp endedOp ended watchDeliver watchCall watchStep watchFrom watched unless failingOf takingOf changed opensOf answerTo openNumber
+    decidedOp endedOp ended watchDeliver watchCall watchStep watchFrom watched unless failingOf takingOf lookingOf changed opensOf answerTo openNumber
     openWords tableWords memberWords entryWords hostWords laid tableSize hostAt hostSize blockSize entrySize newestAt secondAt
     firstAt knownAt pendingAt lastAt acceptedAt recordSize matrixWord recordWords kindOf numberBytes byteIn headed recordByte
     recordLength recordBytes fieldBytes framed encode found every alike holds

@@ -18,7 +18,8 @@ use Rattle.model.specs.RecordWords.{valueOf}
 use Rattle.model.specs.Table.{tableWords}
 use Rattle.model.specs.TableCalls.{openNumber, openWords, boardIn, tableRun}
 use Rattle.runs.specs.Case.{Case, Claim, left, answerTo, found, Holds, tableLeft, foundInWords, HoldsInWords}
-use Rattle.runs.specs.Cases.{p1, p9, p11, refusals, seals, unsealed, alone, mended, fromOpening}
+use Rattle.runs.specs.Cases.{p1, p9, refusals, fromOpening}
+use Rattle.runs.specs.ReplyCases.{replyCases}
 use Rattle.runs.proofs.Cases.{every-case}
 use Rattle.laws.proofs.Sound.{SoundBoard}
 use Rattle.runs.proofs.Sound.{opened-sound}
@@ -126,4 +127,4 @@ every-case-in-words =
     each-in-words fromOpening all-opened (before Holds fromOpening rest (behind Holds p1 (fromOpening ++ rest) every-case))
   where
     rest : List Case
-    rest = (p9 ∷ p11 ∷ refusals ∷ seals ∷ unsealed ∷ []) ++ alone ++ mended
+    rest = (p9 ∷ refusals ∷ []) ++ replyCases

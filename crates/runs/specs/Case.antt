@@ -12,7 +12,8 @@ use Rattle.lists.specs.Parts.{listed}
 use Rattle.model.specs.Rows.{Matrix}
 use Rattle.model.specs.Records.{Value, Rec, read, write, zeroValue}
 use Rattle.model.specs.Kinds.{concur}
-use Rattle.model.specs.Member.{Member, check21, check22, check23, check24, check25, check26, check27, replied}
+use Rattle.model.specs.Member.{Member, check21, check22, check23, check24, check25, check26, check27, haltNumber, replied}
+use Rattle.model.specs.Pairs.{haltPairs}
 use Rattle.model.specs.Board.{Board}
 use Rattle.model.specs.Runs.{Call, begin, deliver, Seen, run, after}
 use Rattle.lists.specs.Every.{Every}
@@ -45,6 +46,13 @@ wholeWrite i v = writes i v ∷ delivers i 4
 abbrev pub wholeRead : ℕ → ℕ → List Call
 wholeRead i r = reads i r ∷ delivers i 4
 
+-- lines of two and of three numbers
+abbrev pub pair : ℕ → ℕ → List ℕ
+pair a b = a ∷ b ∷ []
+
+abbrev pub triple : ℕ → ℕ → ℕ → List ℕ
+triple a b c = a ∷ b ∷ c ∷ []
+
 -- What can be asked of a case.
 pub data Question : Type 0 where
   -- what the board program prints, a line for each call: the answer, the member's phase after it (none for answer 4), and the last word
@@ -63,6 +71,8 @@ pub data Question : Type 0 where
   -- checks that fail, and the phase and halt number that the member then has
   failing : ℕ → ℕ → Question
   taking : ℕ → ℕ → Question
+  -- of such a reply: its halt number, 0 where it passes, and the pairs of counts that the checks look at
+  looking : ℕ → ℕ → Question
   -- of the run: the operations that reached their verdict, the newest first: member, which of its operations, slot, type, the last word
   -- of the value given, the steps of begin, submit and verdict, 1 if accepted, the step of the end, and the last word of a value that was
   -- returned
@@ -149,6 +159,9 @@ failingOf n i m seals =
 unfoldable pub takingOf : ℕ → ℕ → Member → ℕ → List ℕ
 takingOf n i m seals = let taken = replied n i m (m .first) (m .second) seals in taken .phase ∷ taken .halt ∷ []
 
+unfoldable pub lookingOf : ℕ → ℕ → Member → ℕ → List ℕ
+lookingOf n i m seals = pair (haltNumber n i m (m .first) (m .second) seals) (haltPairs n i m (m .first) (m .second) seals)
+
 unfoldable pub changed : ℕ → List ℕ → ℕ
 changed old [] = 0
 changed old (w ∷ l) = cond (eqb w old) (changed old l) (suc (changed old l))
@@ -166,6 +179,7 @@ answerTo n calls b after seen phases = listed n (λ i. after .members i .phase) 
 answerTo n calls b after seen halts = listed n (λ i. after .members i .halt) ∷ []
 answerTo n calls b after seen (failing i seals) = failingOf n i (b .members i) seals ∷ []
 answerTo n calls b after seen (taking i seals) = takingOf n i (b .members i) seals ∷ []
+answerTo n calls b after seen (looking i seals) = lookingOf n i (b .members i) seals ∷ []
 answerTo n calls b after seen decided = map decidedLine (watched calls seen .decided)
 answerTo n calls b after seen (running i) = begunLine (watched calls seen .running i) ∷ []
 answerTo n calls b after seen submits = map submitLine (watched calls seen .submits)

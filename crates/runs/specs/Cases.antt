@@ -1,42 +1,14 @@
--- The worked cases of document 01, "Boards to prove" and "Plausible and false", as rows of one table.
+-- The worked cases of document 01, "Boards to prove" and "Plausible and false", as rows of one table. Replies are in ReplyCases.antt.
 use Prim.Native.Nat.{ℕ}
 use mathlib.Core.List.{List, [], _∷_, _++_}
 use Rattle.lists.specs.Functions.{put}
-use Rattle.model.specs.Rows.{Row, Matrix, zeroRow, zeroMatrix}
-use Rattle.model.specs.Records.{Rec, read, write, zeroValue, zeroRecord}
-use Rattle.model.specs.Member.{Member, begun, answered}
+use Rattle.model.specs.Rows.{zeroRow, zeroMatrix}
+use Rattle.model.specs.Records.{read, write, zeroValue}
 use Rattle.model.specs.Board.{opened, withMember}
 use Rattle.model.specs.Runs.{Call, begin, deliver, crash}
-use Rattle.runs.specs.Case.{
-  writes,
-  reads,
-  delivers,
-  wholeWrite,
-  wholeRead,
-  output,
-  newest,
-  records,
-  messages,
-  phases,
-  halts,
-  failing,
-  taking,
-  decided,
-  running,
-  submits,
-  sizes,
-  opens,
-  _is_,
-  Claim,
-  Case,
-}
-
--- lines of two and of three numbers
-abbrev pub pair : ℕ → ℕ → List ℕ
-pair a b = a ∷ b ∷ []
-
-abbrev pub triple : ℕ → ℕ → ℕ → List ℕ
-triple a b c = a ∷ b ∷ c ∷ []
+use Rattle.runs.specs.Case.{writes, reads, delivers, wholeWrite, wholeRead, pair, triple, output, newest, records, messages, phases}
+use Rattle.runs.specs.Case.{halts, decided, running, submits, sizes, opens, _is_, Claim, Case}
+use Rattle.runs.specs.ReplyCases.{idleWith, replyCases}
 
 -- what a whole operation prints where it is accepted: `ended` is its last line
 abbrev pub prints : List ℕ → List (List ℕ)
@@ -187,23 +159,6 @@ newerWins = record {
   claims = contendedClaims;
 }
 
--- An idle member, given its own counts and what it knows.
-abbrev pub idleWith : Row → Matrix → Member
-idleWith own known = record {
-  phase = 0;
-  crashed = 0;
-  halt = 0;
-  slot = 0;
-  operation = 0;
-  own = own;
-  accepted = zeroRow;
-  last = zeroValue;
-  pending = zeroValue;
-  known = known;
-  first = zeroRecord;
-  second = zeroRecord;
-}
-
 -- Member 1 has begun 4,294,967,294 writes, each of them aborted. One more begins and is accepted; then the count is spent.
 abbrev pub p9 : Case
 p9 = record {
@@ -315,62 +270,6 @@ ownReadsNotStored = record {
       ∷ [];
 }
 
--- The halts. Each state is one of member 1 of 2 that reads slot 2 for the first time and has been answered.
-
--- the matrix of two rows
-abbrev pub rows : Row → Row → Matrix
-rows a b = put (put zeroMatrix 1 a) 2 b
-
-abbrev pub row : ℕ → ℕ → Row
-row a b = put (put zeroRow 1 a) 2 b
-
--- a record of slot 2, by a member, with a matrix
-abbrev pub by : ℕ → Matrix → Rec
-by i m = record { member = i; slot = 2; operation = write; count = 0; value = zeroValue; matrix = m }
-
--- the state: what it knows, and the newest and the stored record sent
-abbrev pub reading : Matrix → Rec → Rec → Member
-reading known = answered (begun (idleWith zeroRow known) 2 read zeroValue)
-
--- a record of a board of 2 with every part zero
-abbrev pub zeroLines : List (List ℕ)
-zeroLines = (0 ∷ 0 ∷ 0 ∷ 0 ∷ 0 ∷ []) ∷ pair 0 0 ∷ pair 0 0 ∷ []
-
--- the case: the checks that fail are this one and those after it, the member halts with this one, "both message records zeroed", and
--- nothing moves it again
-abbrev pub halting : ℕ → List ℕ → Member → Case
-halting number others m = record {
-  n = 2;
-  start = withMember (opened 2) 1 m;
-  calls = deliver 1 ∷ deliver 1 ∷ reads 1 2 ∷ crash 1 ∷ [];
-  claims =
-      failing 1 3 is ((number ∷ others) ∷ [])
-      ∷ output is (pair 0 6 ∷ pair 10 6 ∷ pair 8 6 ∷ pair 11 6 ∷ [])
-      ∷ halts is (pair number 0 ∷ [])
-      ∷ messages 1 is (zeroLines ++ zeroLines)
-      ∷ [];
-}
-
--- 21: nothing else fails, and the board itself passes 3
-abbrev pub seals : Case
-seals = record {
-  n = 2;
-  start = withMember (opened 2) 1 (reading zeroMatrix (by 2 zeroMatrix) (by 2 zeroMatrix));
-  calls = deliver 1 ∷ [];
-  claims =
-      failing 1 0 is ((21 ∷ []) ∷ [])
-      ∷ taking 1 0 is (pair 6 21 ∷ [])
-      ∷ taking 1 1 is (pair 6 21 ∷ [])
-      ∷ taking 1 2 is (pair 6 21 ∷ [])
-      ∷ taking 1 3 is (pair 3 0 ∷ [])
-      ∷ output is (pair 0 3 ∷ [])
-      ∷ [];
-}
-
--- known row 2 (0,2), newest (0,1)
-abbrev pub p11 : Case
-p11 = halting 22 [] (reading (rows zeroRow (row 0 2)) (by 2 (rows zeroRow (row 0 1))) (by 2 (rows zeroRow (row 0 1))))
-
 -- "whole commit and reply are 60 and 115 bytes for n = 2, 620 and 1,235 for n = 12"
 abbrev pub sized : ℕ → ℕ → ℕ → Case
 sized n committed replied = record {
@@ -382,42 +281,6 @@ sized n committed replied = record {
 
 abbrev pub p12 : List Case
 p12 = sized 2 60 115 ∷ sized 12 620 1235 ∷ []
-
--- Each other check alone; 25 has two grounds. 26 also rules out the false "Dropping check 26 and taking each entry at the larger".
-abbrev pub alone : List Case
-alone =
-    halting 23 [] (reading zeroMatrix (by 2 (rows zeroRow (row 1 0))) (by 2 zeroMatrix))
-    ∷ halting 24 [] (reading zeroMatrix (by 2 zeroMatrix) (by 1 zeroMatrix))
-    ∷ halting 25 [] (reading zeroMatrix (by 2 zeroMatrix) (by 2 (rows (row 0 1) zeroRow)))
-    ∷ halting 25 [] (reading zeroMatrix (by 2 (rows zeroRow (row 0 1))) (by 2 zeroMatrix))
-    ∷ halting 26 [] (reading (rows (row 1 0) zeroRow) (by 2 (rows (row 0 1) zeroRow)) (by 2 zeroMatrix))
-    ∷ halting 27 [] (reading zeroMatrix (by 2 (rows (row 1 0) zeroRow)) (by 2 zeroMatrix))
-    ∷ []
-
--- Their order: a state that fails all, mended at one check after the other. With seals 2 the first is 21.
-abbrev pub failsAll : Member
-failsAll = reading (rows (row 0 1) (row 0 2)) (by 2 (rows (row 1 0) (row 1 1))) (by 1 zeroMatrix)
-
-abbrev pub unsealed : Case
-unsealed = record {
-  n = 2;
-  start = withMember (opened 2) 1 failsAll;
-  calls = [];
-  claims =
-      failing 1 2 is ((21 ∷ 22 ∷ 23 ∷ 24 ∷ 25 ∷ 26 ∷ 27 ∷ []) ∷ [])
-      ∷ taking 1 2 is (pair 6 21 ∷ [])
-      ∷ [];
-}
-
-abbrev pub mended : List Case
-mended =
-    halting 22 (23 ∷ 24 ∷ 25 ∷ 26 ∷ 27 ∷ []) failsAll
-    ∷ halting 23 (24 ∷ 25 ∷ 26 ∷ 27 ∷ []) (reading (rows (row 0 1) (row 0 1)) (by 2 (rows (row 1 0) (row 1 1))) (by 1 zeroMatrix))
-    ∷ halting 24 (25 ∷ 26 ∷ 27 ∷ []) (reading (rows (row 0 1) (row 0 1)) (by 2 (rows (row 1 0) (row 0 1))) (by 1 zeroMatrix))
-    ∷ halting 25 (26 ∷ 27 ∷ []) (reading (rows (row 0 1) (row 0 1)) (by 2 (rows (row 1 0) (row 0 1))) (by 2 zeroMatrix))
-    ∷ halting 26 (27 ∷ []) (reading (rows (row 0 1) (row 0 1)) (by 2 (rows (row 1 0) (row 0 1))) (by 2 (rows zeroRow (row 0 1))))
-    ∷ halting 27 [] (reading (rows zeroRow (row 0 1)) (by 2 (rows (row 1 0) (row 0 1))) (by 2 (rows zeroRow (row 0 1))))
-    ∷ []
 
 -- The cases that start from an opened board, which are true of the table's words too.
 abbrev pub plain : List Case
@@ -434,4 +297,4 @@ fromOpening = plain ++ crashes ++ falses ++ p12
 
 -- The table.
 abbrev pub cases : List Case
-cases = p1 ++ fromOpening ++ (p9 ∷ p11 ∷ refusals ∷ seals ∷ unsealed ∷ []) ++ alone ++ mended
+cases = p1 ++ fromOpening ++ (p9 ∷ refusals ∷ []) ++ replyCases

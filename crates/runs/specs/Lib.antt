@@ -1,4 +1,5 @@
 pub mod Case
+pub mod ReplyCases
 pub mod Cases
 pub mod Scripts
 pub mod HostWords

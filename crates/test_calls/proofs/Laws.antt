@@ -21,7 +21,7 @@ use Rattle.records.specs.Meaning.{recordIn}
 use Rattle.messages.specs.Meaning.{fieldsIn}
 use Rattle.messages.specs.declared.Message.{Message}
 use Rattle.test_calls.specs.Beside.{beside, besideTwo}
-use Rattle.test_calls.specs.Handed.{recordDue, pairDue, fieldsDue, recordFrom, recordGiven, pairWords, fieldWords, repliedWords}
+use Rattle.test_calls.specs.Handed.{recordDue, bothDue, fieldsDue, recordFrom, recordGiven, bothWords, fieldWords, repliedWords}
 
 -- A slice beside a call: of the wrong length, and of the right one.
 module _ {A : Type 0} (l : List ℕ) (due : ℕ) where
@@ -80,21 +80,21 @@ pub record-long : (r : Rec) → length (recordWords 12 r) ≡ recordDue
 unfolding recordSize
 record-long r = length-recordWords 12 r
 
-pub pair-stored : (l : List ℕ) (at : ℕ) (newest stored : Rec) → length l ≡ at + pairDue
-    → replaced (replaced l at (recordWords 12 newest)) (at + recordDue) (recordWords 12 stored) ≡ take at l ++ pairWords newest stored
-unfolding pairWords
-pair-stored l at newest stored long =
+pub both-stored : (l : List ℕ) (at : ℕ) (newest stored : Rec) → length l ≡ at + bothDue
+    → replaced (replaced l at (recordWords 12 newest)) (at + recordDue) (recordWords 12 stored) ≡ take at l ++ bothWords newest stored
+unfolding bothWords
+both-stored l at newest stored long =
     both-replaced l (recordWords 12 newest) (recordWords 12 stored) at (at + recordDue)
     (ap (λ k. at + k) (record-long newest)) (omega (arith, record-long stored))
 
 -- A message's fields: its six numbers stored one by one, then its records.
 pub fields-stored : (l : List ℕ) (m : Message) → length l ≡ fieldsDue
     → take 6 (set (set (set (set (set (set l 0 (m .kind)) 1 (m .member)) 2 (m .slot)) 3 (m .operation)) 4 (m .count)) 5 (m .outcome))
-    ++ pairWords (recordIn (m .newest)) (recordIn (m .stored))
+    ++ bothWords (recordIn (m .newest)) (recordIn (m .stored))
     ≡ fieldWords (fieldsIn m)
 unfolding fieldWords fieldsIn
 fields-stored l m long =
-    ap (λ h. h ++ pairWords (recordIn (m .newest)) (recordIn (m .stored)))
+    ap (λ h. h ++ bothWords (recordIn (m .newest)) (recordIn (m .stored)))
     (six-stored l (m .kind) (m .member) (m .slot) (m .operation) (m .count) (m .outcome) (omega arith))
 
 -- A record as a half takes it.
@@ -102,19 +102,19 @@ pub given : (n : ℕ) (l : List ℕ) (at : ℕ) {r : Rec} → r ≡ recordFrom l
 unfolding recordGiven
 given n l at e = ap (recordWithin n) e
 
--- What a submit is replied, record by record, and as a pair.
-pairs : (b : Bool) (r s z : Rec) → pairWords (cond b r z) (cond b s z) ≡ cond b (pairWords r s) (pairWords z z)
-pairs true r s z = refl
-pairs false r s z = refl
+-- What a submit is replied, record by record, and both.
+either : (b : Bool) (r s z : Rec) → bothWords (cond b r z) (cond b s z) ≡ cond b (bothWords r s) (bothWords z z)
+either true r s z = refl
+either false r s z = refl
 
 pub replied : (n : ℕ) (l : List ℕ) (i r t : ℕ) {number : ℕ} {newest stored : Rec} → number ≡ hostNumber n l i r t
     → newest ≡ cond (eqb number 0) (submitNewest n l r) zeroRecord → stored ≡ cond (eqb number 0) (submitStored n l r) zeroRecord
-    → pairWords newest stored ≡ repliedWords n l i r t
+    → bothWords newest stored ≡ repliedWords n l i r t
 unfolding repliedWords
 replied n l i r t {number} e p q =
-    (λ t. pairWords (p t) (q t))
-    ∙ pairs (eqb number 0) (submitNewest n l r) (submitStored n l r) zeroRecord
-    ∙ ap (λ k. cond (eqb k 0) (pairWords (submitNewest n l r) (submitStored n l r)) (pairWords zeroRecord zeroRecord)) e
+    (λ t. bothWords (p t) (q t))
+    ∙ either (eqb number 0) (submitNewest n l r) (submitStored n l r) zeroRecord
+    ∙ ap (λ k. cond (eqb k 0) (bothWords (submitNewest n l r) (submitStored n l r)) (bothWords zeroRecord zeroRecord)) e
 
 -- What the writer writes is few bytes.
 encoded-small : (n : ℕ) (m : Option Wire) → n ≤ 12 → writtenLength n m ≤ 1235

@@ -17,8 +17,8 @@ use Rattle.messages.specs.Meaning.{Fields, messageOf}
 abbrev pub recordDue : ℕ
 recordDue = 156
 
-abbrev pub pairDue : ℕ
-pairDue = 312
+abbrev pub bothDue : ℕ
+bothDue = 312
 
 abbrev pub fieldsDue : ℕ
 fieldsDue = 318
@@ -35,14 +35,14 @@ unfoldable pub recordGiven : ℕ → List ℕ → ℕ → Rec
 recordGiven n l at = recordWithin n (recordFrom l at)
 
 -- two records: the newest, then the stored one
-unfoldable pub pairWords : Rec → Rec → List ℕ
-pairWords newest stored = recordWords 12 newest ++ recordWords 12 stored
+unfoldable pub bothWords : Rec → Rec → List ℕ
+bothWords newest stored = recordWords 12 newest ++ recordWords 12 stored
 
 -- the fields of a message: kind, member, slot, type, count, outcome, newest record, stored record
 unfoldable pub fieldWords : Fields → List ℕ
 fieldWords f =
     (f .kind ∷ f .member ∷ f .slot ∷ f .operation ∷ f .count ∷ f .result ∷ [])
-    ++ pairWords (f .newest) (f .stored)
+    ++ bothWords (f .newest) (f .stored)
 
 unfoldable pub fieldsFrom : List ℕ → Fields
 fieldsFrom l = record {
@@ -64,5 +64,5 @@ messageGiven l = messageOf (fieldsFrom l)
 unfoldable pub repliedWords : ℕ → List ℕ → ℕ → ℕ → ℕ → List ℕ
 repliedWords n l member slot operation =
     cond (eqb (hostNumber n l member slot operation) 0)
-    (pairWords (submitNewest n l slot) (submitStored n l slot))
-    (pairWords zeroRecord zeroRecord)
+    (bothWords (submitNewest n l slot) (submitStored n l slot))
+    (bothWords zeroRecord zeroRecord)

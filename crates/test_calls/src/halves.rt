@@ -6,15 +6,15 @@ ghost use Rattle.model.specs.Kinds.{concur};
 ghost use Rattle.model.specs.RecordWords.{valueOf};
 ghost use Rattle.model.specs.Table.{valueSize};
 ghost use Rattle.model.specs.Halves.{memberBeginNumber, memberBeginWords, memberCrashNumber, memberCrashWords};
-ghost use Rattle.model.specs.Halves.{replyNumber, replyWords, outcomeNumber, outcomeWords, outcomeReturns};
+ghost use Rattle.model.specs.Halves.{replyNumber, replyPairs, replyWords, outcomeNumber, outcomeWords, outcomeReturns};
 ghost use Rattle.model.specs.Halves.{hostNumber, submitWords, commitNumber, commitWords, commitOutcome};
 ghost use Rattle.board.specs.Interface.{returnedSize, returnedWords};
 ghost use Rattle.test_calls.specs.Beside.{beside, besideTwo};
-ghost use Rattle.test_calls.specs.Handed.{recordDue, pairDue, numberDue, recordGiven, repliedWords};
-use crate::words::PAIR_WORDS;
+ghost use Rattle.test_calls.specs.Handed.{recordDue, bothDue, numberDue, recordGiven, repliedWords};
+use crate::words::BOTH_WORDS;
 use crate::words::RECORD_WORDS;
 use crate::words::load_at;
-use crate::words::store_pair;
+use crate::words::store_both;
 use board::steps::hand_out;
 use host::take_commit;
 use host::take_submit;
@@ -54,22 +54,32 @@ pub extern "C" fn concur_call_member_reply(
     member: u32,
     records: &[u32],
     seals: u32,
+    pairs: &mut [u32],
 ) -> u32
     ensures { λ r. ⌜ r
-        ≡ beside (now (records .entry)) pairDue 2
+        ≡ besideTwo (now (records .entry)) bothDue (now (pairs .entry)) numberDue 2
         (replyNumber n member (now (block .entry))
         (recordGiven n (now (records .entry)) 0) (recordGiven n (now (records .entry)) recordDue) seals) ⌝ }
     ensures { λ _. ⌜ now (block .exit)
-        ≡ beside (now (records .entry)) pairDue (now (block .entry))
+        ≡ besideTwo (now (records .entry)) bothDue (now (pairs .entry)) numberDue (now (block .entry))
         (replyWords n member (now (block .entry))
         (recordGiven n (now (records .entry)) 0) (recordGiven n (now (records .entry)) recordDue) seals) ⌝ }
+    ensures { λ _. ⌜ now (pairs .exit)
+        ≡ besideTwo (now (records .entry)) bothDue (now (pairs .entry)) numberDue (now (pairs .entry))
+        (replyPairs n member (now (block .entry))
+        (recordGiven n (now (records .entry)) 0) (recordGiven n (now (records .entry)) recordDue) seals ∷ []) ⌝ }
 {
-    if records.len() != PAIR_WORDS {
+    if records.len() != BOTH_WORDS {
+        return 2;
+    }
+    if pairs.len() != 1 {
         return 2;
     }
     let newest = load_at(records, 0);
     let stored = load_at(records, RECORD_WORDS);
-    take_reply(block, n, member, newest, stored, seals)
+    let taken = take_reply(block, n, member, newest, stored, seals);
+    pairs[0] = taken.pairs;
+    taken.number
 }
 
 #[no_mangle]
@@ -119,20 +129,20 @@ pub extern "C" fn concur_call_host_submit(
     records: &mut [u32],
 ) -> u32
     ensures { λ r. ⌜ r
-        ≡ beside (now (records .entry)) pairDue 2
+        ≡ beside (now (records .entry)) bothDue 2
         (hostNumber n (now (entries .entry)) member slot operation) ⌝ }
     ensures { λ _. ⌜ now (entries .exit)
-        ≡ beside (now (records .entry)) pairDue (now (entries .entry))
+        ≡ beside (now (records .entry)) bothDue (now (entries .entry))
         (submitWords n (now (entries .entry)) member slot operation count) ⌝ }
     ensures { λ _. ⌜ now (records .exit)
-        ≡ beside (now (records .entry)) pairDue (now (records .entry))
+        ≡ beside (now (records .entry)) bothDue (now (records .entry))
         (repliedWords n (now (entries .entry)) member slot operation) ⌝ }
 {
-    if records.len() != PAIR_WORDS {
+    if records.len() != BOTH_WORDS {
         return 2;
     }
     let reply = take_submit(entries, n, member, slot, operation, count);
-    store_pair(records, 0, reply.newest, reply.stored);
+    store_both(records, 0, reply.newest, reply.stored);
     reply.number
 }
 

@@ -5,7 +5,7 @@ ghost use Prim.Native.Nat.{_+_, _≤_};
 ghost use lib.ListN.{length, take};
 ghost use Rattle.messages.specs.Meaning.{fieldsIn};
 ghost use Rattle.records.specs.Meaning.{recordIn};
-ghost use Rattle.test_calls.specs.Handed.{recordDue, recordFrom, pairDue, pairWords, fieldsDue, fieldsFrom, fieldWords};
+ghost use Rattle.test_calls.specs.Handed.{recordDue, recordFrom, bothDue, bothWords, fieldsDue, fieldsFrom, fieldWords};
 use messages::Message;
 use records::Record;
 use records::steps::load_record;
@@ -14,7 +14,7 @@ use records::steps::store_record;
 // How many words a record has, two records, and the fields of a message.
 pub const RECORD_WORDS: usize = 156;
 
-pub const PAIR_WORDS: usize = 312;
+pub const BOTH_WORDS: usize = 312;
 
 pub const FIELDS_WORDS: usize = 318;
 
@@ -32,9 +32,9 @@ pub fn load_at(t: &[u32], at: usize) -> Record
 }
 
 // The newest and the stored record to the words from `at` on, which are the last ones.
-pub fn store_pair(t: &mut [u32], at: usize, newest: Record, stored: Record)
-    requires { ⌜ length (now t) ≡ at + pairDue ⌝ }
-    ensures { λ _. ⌜ now (t .exit) ≡ take at (now (t .entry)) ++ pairWords (recordIn newest) (recordIn stored) ⌝ }
+pub fn store_both(t: &mut [u32], at: usize, newest: Record, stored: Record)
+    requires { ⌜ length (now t) ≡ at + bothDue ⌝ }
+    ensures { λ _. ⌜ now (t .exit) ≡ take at (now (t .entry)) ++ bothWords (recordIn newest) (recordIn stored) ⌝ }
 {
     store_record(t, at, 12, newest);
     store_record(t, at + RECORD_WORDS, 12, stored);
@@ -71,5 +71,5 @@ pub fn store_fields(t: &mut [u32], message: Message)
     t[3] = message.operation;
     t[4] = message.count;
     t[5] = message.outcome;
-    store_pair(t, NEWEST_AT, message.newest, message.stored);
+    store_both(t, NEWEST_AT, message.newest, message.stored);
 }

@@ -1,10 +1,13 @@
--- `take_reply` meets its contract: its number refuses and the block stays, or it is 0 and the step's words are left.
+-- `take_reply` meets its contract: its number refuses and the block stays, or it is 0 and the step's words are left; the pairs are the
+-- step's, and no more than the ceiling.
 use borrow.Author.Needs.{needs}
 use mathlib.Core.Path.{_∙_, _≡_, sym}
-use Rattle.lists.proofs.Refusals.{stays}
-use Rattle.model.specs.Halves.{replyNumber, replyWords}
+use native.Mathlib.Omega.{arith}
+use Rattle.lists.proofs.Refusals.{becomes, stays}
+use Rattle.model.specs.Halves.{replyNumber, replyPairs, replyWords}
 use Rattle.model.specs.Records.{recordWithin}
 use Rattle.records.specs.Meaning.{recordIn}
+use Rattle.member.proofs.Laws.{few-pairs}
 use Rattle.member.proofs.Refusals.{reply-good, words-made}
 use Rattle.member.proofs.take_reply.Statement.{statement}
 use Rattle.member.proofs.take_reply.Tie as tie
@@ -18,19 +21,34 @@ taken : (c : tie.Else1) → let a = start (c .before) .args in
 taken c = sym (c .before .reply-number .ensures) ∙ c .if1 .left
 
 returns : tie.Need-returns
-unfolding replyWords
-returns c = (c .before .reply-number .ensures, stays _ _ (c .before .reply-number .ensures) (c .if1 .taken))
+unfolding replyWords replyPairs
+returns c =
+    let e = c .before .reply-number .ensures in
+    (e, (stays _ _ e (c .if1 .taken), (omega arith, stays _ _ e (c .if1 .taken))))
 
 reply-requires : tie.Need-reply-requires
 reply-requires c κs = reply-good _ _ _ _ _ _ (taken (c .before))
 
+abbrev left : tie.After-reply → tie.Else1
+left c = c .before .before
+
 returns-2 : tie.Need-returns-2
-unfolding replyWords
+unfolding replyWords replyPairs
 returns-2 c =
     let replies = c .before .before in
-    let left = replies .before .before in
-    let long = replies .reply .kept .0 ∙ reply-good _ _ _ _ _ _ (taken left) .0 .block .long in
-    (sym (taken left), words-made _ (start (left .before) .args .block .now) _ _ (taken left) long (replies .reply .ensures))
+    let e = taken (left replies) in
+    let good = reply-good _ _ _ _ _ _ e in
+    let pairs = replies .reply .ensures .0 in (
+      sym e,
+      (
+        becomes _ _ e pairs,
+        (
+          few-pairs (good .0) (good .1) _ _ _ pairs,
+          words-made _ (start (left replies .before) .args .block .now) _ _ e (replies .reply .kept .0 ∙ good .0 .block .long)
+              (replies .reply .ensures .1),
+        ),
+      ),
+    )
 
 pub take-reply-spec : {M : Type 1} → statement M
 take-reply-spec =

@@ -1,4 +1,4 @@
--- `reply_noted` meets its contract: the two message records are loaded, `halt_number` says whether they fail or pass as a reply, and what
+-- `reply_noted` meets its contract: the two message records are loaded, `halt_of` says whether they fail or pass as a reply, and what
 -- is then done is what `replied` says.
 use borrow.Author.Needs.{needs}
 use native.Mathlib.Omega.{arith}
@@ -28,7 +28,7 @@ matrix c = c .before .before
 abbrev first : tie.After-load-record2 → tie.After-load-record
 first c = c .before .before
 
-abbrev loaded : tie.After-halt-number → tie.After-load-record2
+abbrev loaded : tie.After-halt-of → tie.After-load-record2
 loaded c = c .before .before
 
 -- what the checks, and passing, ask of the block and the known matrix
@@ -69,8 +69,8 @@ load-record-requires-2 : tie.Need-load-record-requires-2
 unfolding blockSize
 load-record-requires-2 c κs = (search needs, omega arith)
 
-halt-number-requires : tie.Need-halt-number-requires
-halt-number-requires c κs = asked (matrix (first (c .before)))
+halt-of-requires : tie.Need-halt-of-requires
+halt-of-requires c κs = asked (matrix (first (c .before)))
 
 fail-requires : tie.Need-fail-requires
 fail-requires c κs = asked (matrix (first (loaded (c .before .before)))) .0 .block
@@ -82,7 +82,7 @@ returns c =
     let h = failed .before in
     let known = asked (matrix (first (loaded h))) in
     fails .fail .ensures
-    ∙ sym (replied-failed (known .0) (known .1 .0) _ _ _ _ (h .halt-number .ensures) (failed .if1 .taken))
+    ∙ sym (replied-failed (known .0) (known .1 .0) _ _ _ _ (h .halt-of .ensures .0) (failed .if1 .taken))
     ∙ noted (loaded h)
 
 pass-noted-requires : tie.Need-pass-noted-requires
@@ -96,12 +96,12 @@ returns-2 c =
     let known = asked (matrix (first (loaded h))) in
     passes .pass-noted .ensures
     ∙ ap (passed _ _ _ _) (sym (stored (loaded h)))
-    ∙ sym (replied-passed (known .0) (known .1 .0) _ _ _ _ (h .halt-number .ensures) (left .if1 .left))
+    ∙ sym (replied-passed (known .0) (known .1 .0) _ _ _ _ (h .halt-of .ensures .0) (left .if1 .left))
     ∙ noted (loaded h)
 
 pub reply-noted-spec : {M : Type 1} → statement M
 reply-noted-spec =
     tie.close
     (tie.spec
-    (λ c κs. search needs) load-matrix-requires load-record-requires load-record-requires-2 halt-number-requires
+    (λ c κs. search needs) load-matrix-requires load-record-requires load-record-requires-2 halt-of-requires
     fail-requires (λ c. search needs) returns pass-noted-requires (λ c. search needs) returns-2)

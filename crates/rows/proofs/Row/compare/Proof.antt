@@ -13,11 +13,13 @@ use Rattle.rows.proofs.Row.compare.Statement.{statement}
 use Rattle.rows.proofs.Row.compare.Tie as tie
 
 abbrev Inv-loop : tie.InvT-loop
-Inv-loop n self other last f₀ g₀ i₀ f g i =
-    (i ≤ last) × ((last ≡ min n 12) × ((f ≡ not (below i (rowIn self) (rowIn other))) × (g ≡ not (below i (rowIn other) (rowIn self)))))
+Inv-loop n self other last f₀ g₀ pairs₀ i₀ f g pairs i =
+    (i ≤ last)
+    × ((last ≡ min n 12)
+    × ((pairs ≡ i) × ((f ≡ not (below i (rowIn self) (rowIn other))) × (g ≡ not (below i (rowIn other) (rowIn self))))))
 
 abbrev μ-loop : tie.MeasureT-loop
-μ-loop n self other last f₀ g₀ i₀ f g i = last - i
+μ-loop n self other last f₀ g₀ pairs₀ i₀ f g pairs i = last - i
 
 abbrev start : tie.At-loop Inv-loop μ-loop → tie.Start Inv-loop μ-loop
 start c = c .before .before
@@ -27,29 +29,31 @@ at-loop c = c .before
 
 loop-holds : tie.Need-loop-holds Inv-loop μ-loop
 unfolding below
-loop-holds c = (search needs, (search needs, (ap not (sym (each-none _)), ap not (sym (each-none _)))))
+loop-holds c = (search needs, (search needs, (search needs, (ap not (sym (each-none _)), ap not (sym (each-none _))))))
 
 loop-again : tie.Need-loop-again Inv-loop μ-loop
 loop-again c =
     let loop = at-loop (c .before .before) in
     let a = start loop .args in
     let l = loop .loop in
-    let flags = l .inv .1 .1 in
+    let flags = l .inv .1 .1 .1 in
     let h : l .i < 12 = omega arith in
-    (search needs, (search needs, (flag-more (a .t1) (a .t2) (l .i) h (flags .0), flag-more (a .t2) (a .t1) (l .i) h (flags .1))))
+    let first = flag-more (a .t1) (a .t2) (l .i) h (flags .0) in
+    let second = flag-more (a .t2) (a .t1) (l .i) h (flags .1) in
+    (search needs, (search needs, (omega arith, (first, second))))
 
--- once every entry is passed, the flags decide
+-- once every entry is passed, the flags decide, and all were looked at
 decided : {p q : Bool} (c : tie.After-loop Inv-loop μ-loop) →
     let loop = c .before in
     let a = start loop .args in
     loop .loop .exceeds ≡ p → loop .loop .exceeded ≡ q
-    → byFlags p q ≡ compared (min (a .n) 12) (rowIn (a .t1)) (rowIn (a .t2))
+    → (byFlags p q ≡ compared (min (a .n) 12) (rowIn (a .t1)) (rowIn (a .t2))) × (loop .loop .pairs ≡ min (a .n) 12)
 decided c s t =
     let loop = c .before in
     let a = start loop .args in
     let l = loop .loop in
-    let flags = l .inv .1 .1 in
-    sym (flags-decide (min (a .n) 12) (l .i) (a .t1) (a .t2) (omega arith) (flags .0) (flags .1) s t)
+    let flags = l .inv .1 .1 .1 in
+    (sym (flags-decide (min (a .n) 12) (l .i) (a .t1) (a .t2) (omega arith) (flags .0) (flags .1) s t), omega arith)
 
 returns : tie.Need-returns Inv-loop μ-loop
 returns c = decided (c .before .before) (c .before .if1 .taken) (c .if2 .taken)
@@ -68,4 +72,4 @@ compare-spec =
     tie.close
     (tie.spec
     Inv-loop μ-loop (λ c κs. search needs) loop-holds (λ c. search needs) (λ c. search needs) (λ c. search needs)
-    (λ c. search needs) (λ c. search needs) (λ c. search needs) loop-again returns returns-2 returns-3 returns-4)
+    (λ c. search needs) (λ c. search needs) (λ c. search needs) (λ c. search needs) loop-again returns returns-2 returns-3 returns-4)

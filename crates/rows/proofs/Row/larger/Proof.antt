@@ -13,7 +13,7 @@ tested : (c : tie.After-equal-or-below) →
     c .equal-or-below .result ≡ below (min (a .n) 12) (rowIn (a .self)) (rowIn (a .other))
 tested c =
     let a = c .before .before .args in
-    answer-below (min (a .n) 12) (a .self) (a .other) (c .before .compare .ensures) (c .equal-or-below .ensures)
+    answer-below (min (a .n) 12) (a .self) (a .other) (c .before .compare .ensures .0) (c .equal-or-below .ensures)
 
 returns : tie.Need-returns
 unfolding larger

@@ -6,10 +6,10 @@ use Rattle.test_calls.proofs.Laws.{refuses, calls, replied}
 use Rattle.test_calls.proofs.halves.concur_call_host_submit.Statement.{statement}
 use Rattle.test_calls.proofs.halves.concur_call_host_submit.Tie as tie
 
-abbrev stored : tie.After-slice-known4 → tie.After-store-pair
+abbrev stored : tie.After-slice-known4 → tie.After-store-both
 stored c = c .before .before
 
-abbrev took : tie.After-store-pair-arg → tie.After-take-submit
+abbrev took : tie.After-store-both-arg → tie.After-take-submit
 took c = c .before .before .before
 
 abbrev fits : tie.After-take-submit → tie.Else1
@@ -21,8 +21,8 @@ start c = c .before .before .before
 returns : tie.Need-returns
 returns c = let ne = c .if1 .taken in (refuses _ _ ne _ _, (refuses _ _ ne _ _, refuses _ _ ne _ _))
 
-store-pair-requires : tie.Need-store-pair-requires
-store-pair-requires c κs = omega (arith, fits (took c) .if1 .left)
+store-both-requires : tie.Need-store-both-requires
+store-both-requires c κs = omega (arith, fits (took c) .if1 .left)
 
 returns-2 : tie.Need-returns-2
 returns-2 c =
@@ -34,7 +34,7 @@ returns-2 c =
       calls _ _ e _ _ (done .0),
       (
         calls _ _ e _ _ (done .1 .1 .1),
-        calls _ _ e _ _ (stored c .store-pair .ensures ∙ reply),
+        calls _ _ e _ _ (stored c .store-both .ensures ∙ reply),
       ),
     )
 
@@ -42,4 +42,4 @@ pub concur-call-host-submit-spec : {M : Type 1} → statement M
 concur-call-host-submit-spec =
     tie.close
     (tie.spec
-    returns (λ c κs. search needs) store-pair-requires (λ c. search needs) (λ c. search needs) returns-2)
+    returns (λ c κs. search needs) store-both-requires (λ c. search needs) (λ c. search needs) returns-2)

@@ -1,4 +1,4 @@
--- `store_pair` meets its contract: two records stored one after the other, to the slice's end.
+-- `store_both` meets its contract: two records stored one after the other, to the slice's end.
 use mathlib.Core.Path.{ap, _∙_}
 use borrow.Author.Needs.{needs}
 use native.Mathlib.Omega.{arith}
@@ -7,9 +7,9 @@ use Rattle.lists.specs.Parts.{replaced}
 use Rattle.model.specs.RecordWords.{recordSize, recordWords}
 use Rattle.records.specs.Meaning.{recordIn}
 use Rattle.test_calls.specs.Handed.{recordDue}
-use Rattle.test_calls.proofs.Laws.{pair-stored}
-use Rattle.test_calls.proofs.words.store_pair.Statement.{statement}
-use Rattle.test_calls.proofs.words.store_pair.Tie as tie
+use Rattle.test_calls.proofs.Laws.{both-stored}
+use Rattle.test_calls.proofs.words.store_both.Statement.{statement}
+use Rattle.test_calls.proofs.words.store_both.Tie as tie
 
 -- where the first record, and where both, are stored
 abbrev first : tie.After-store-record-arg2 → tie.After-store-record
@@ -38,9 +38,9 @@ returns c =
     let a = start one .args in
     both c .store-record2 .ensures
     ∙ ap (λ l. replaced l (a .at + recordDue) (recordWords 12 (recordIn (a .stored)))) (one .store-record .ensures)
-    ∙ pair-stored (a .t .now) (a .at) (recordIn (a .newest)) (recordIn (a .stored)) (start one .pre)
+    ∙ both-stored (a .t .now) (a .at) (recordIn (a .newest)) (recordIn (a .stored)) (start one .pre)
 
-pub store-pair-spec : {M : Type 1} → statement M
-store-pair-spec =
+pub store-both-spec : {M : Type 1} → statement M
+store-both-spec =
     tie.close
     (tie.spec store-record-requires (λ c. search needs) store-record-requires-2 same-length returns)
