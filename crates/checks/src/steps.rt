@@ -20,16 +20,13 @@ pub struct Halt {
     pub pairs: u32,
 }
 
-// Is a not above b? Where it is skipped, it passes and nothing is compared.
+// Is a not above b? Where that is skipped, it passes and nothing is compared.
 fn not_above(skipped: bool, a: u32, b: u32) -> Check
     ensures { λ r. ⌜ r .passed ≡ (skipped || leb a b) ⌝ }
     ensures { λ r. ⌜ r .pairs ≡ cond skipped 0 1 ⌝ }
 {
     if skipped {
-        return Check {
-            passed: true,
-            pairs: 0,
-        };
+        return Check::skipped();
     }
     Check {
         passed: a <= b,
@@ -37,16 +34,27 @@ fn not_above(skipped: bool, a: u32, b: u32) -> Check
     }
 }
 
-// Are the rows comparable, not crossed? Where they are skipped, they pass and nothing is compared.
+// Are a and b equal? Skipped likewise.
+fn equal(skipped: bool, a: u32, b: u32) -> Check
+    ensures { λ r. ⌜ r .passed ≡ (skipped || eqb a b) ⌝ }
+    ensures { λ r. ⌜ r .pairs ≡ cond skipped 0 1 ⌝ }
+{
+    if skipped {
+        return Check::skipped();
+    }
+    Check {
+        passed: a == b,
+        pairs: 1,
+    }
+}
+
+// Are the rows comparable, not crossed? Skipped likewise.
 fn in_order(skipped: bool, a: Row, b: Row, n: usize) -> Check
     ensures { λ r. ⌜ r .passed ≡ (skipped || comparableOf (min n 12) (rowIn a) (rowIn b)) ⌝ }
     ensures { λ r. ⌜ r .pairs ≡ cond skipped 0 (min n 12) ⌝ }
 {
     if skipped {
-        return Check {
-            passed: true,
-            pairs: 0,
-        };
+        return Check::skipped();
     }
     let rows = a.compare(b, n);
     let answer = rows.answer;
@@ -91,8 +99,7 @@ pub fn check_23(accepted: Row, newest: [Row; 12], member: usize, slot: usize) ->
     ensures { λ r. ⌜ r .pairs ≡ pairs23 ⌝ }
 {
     let row = newest[slot - 1];
-    let passed = row.counts[member - 1] == accepted.counts[slot - 1];
-    Check { passed, pairs: 1 }
+    equal(false, row.counts[member - 1], accepted.counts[slot - 1])
 }
 
 // 25: the stored matrix is below the newest, and they agree in the slot's row at its owner.
@@ -103,14 +110,14 @@ pub fn check_25(stored: [Row; 12], newest: [Row; 12], n: usize, slot: usize) -> 
 {
     let at = slot - 1;
     let rows = matrix_below(stored, newest, n);
-    if !rows.passed {
-        return rows;
-    }
     let a = stored[at];
     let b = newest[at];
-    let passed = a.counts[at] == b.counts[at];
-    let pairs = rows.pairs + 1;
-    Check { passed, pairs }
+    let entry = equal(!rows.passed, a.counts[at], b.counts[at]);
+    let pairs = rows.pairs + entry.pairs;
+    Check {
+        passed: rows.passed & entry.passed,
+        pairs,
+    }
 }
 
 // 26: in every other row, known and newest are comparable.
@@ -149,9 +156,9 @@ pub fn check_27(accepted: Row, newest: [Row; 12], n: usize, member: usize, slot:
     let mut j = 0;
     while j < n {
         let row = newest[j];
-        let entry = not_above(j + 1 == slot, row.counts[at], accepted.counts[j]);
-        pairs += entry.pairs;
-        if !entry.passed {
+        let count = not_above(j + 1 == slot, row.counts[at], accepted.counts[j]);
+        pairs += count.pairs;
+        if !count.passed {
             return Check {
                 passed: false,
                 pairs,
@@ -188,9 +195,9 @@ pub fn slot_halt(
     if !row.passed {
         return Halt { number: 22, pairs };
     }
-    let entry = check_23(accepted, newest, member, slot);
-    pairs += entry.pairs;
-    if !entry.passed {
+    let own = check_23(accepted, newest, member, slot);
+    pairs += own.pairs;
+    if !own.passed {
         return Halt { number: 23, pairs };
     }
     if owner as usize != slot {

@@ -12,7 +12,7 @@ use Rattle.model.specs.Rows.{Matrix}
 use Rattle.model.specs.Records.{Rec}
 use Rattle.model.specs.Member.{Member, check21, check22, check23, check24, check25, check26, check27, haltNumber}
 use Rattle.model.specs.Pairs.{pairs22, pairs23, pairs25, pairs26, pairs27, ifMade, haltPairs}
-use Rattle.model.proofs.Pairs.{if-made}
+use Rattle.model.proofs.PairClaims.{if-made}
 use Rattle.model.specs.RecordWords.{matrixOf, rowOf}
 use Rattle.model.specs.Table.{acceptedAt, knownAt, memberOf, slotAt}
 use Rattle.rows.specs.Meaning.{matrixIn, rowIn}

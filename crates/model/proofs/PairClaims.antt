@@ -2,9 +2,10 @@
 -- made.
 use Prim.Native.Nat.{ℕ, _+_, _-_, _*_, _≤_}
 use mathlib.Core.Path.{_≡_, refl, sym, subst}
-use mathlib.Core.Bool.{Bool, true, false, cond, not}
+use mathlib.Core.Bool.{Bool, true, false, cond, not, _||_}
+use native.Mathlib.Nat.{le-refl}
 use native.Mathlib.Omega.{arith}
-use lib.Dec.{eqb}
+use lib.Dec.{eqb, leb}
 use borrow.Author.Tests.{not-true, not-false}
 use Rattle.lists.specs.Functions.{Within}
 use Rattle.lists.proofs.Functions.{on, split, first}
@@ -14,7 +15,7 @@ use Rattle.model.specs.Member.{Member, entry22, row26, row27, check21, c
 use Rattle.model.specs.Pairs.{pairs22, pairs23, pairs25, pairs26, pairs27, ifMade, haltPairs, mostPairs}
 use Rattle.model.specs.PairClaims.{Verdict, PairsAsAsked, Ceilings}
 use Rattle.model.specs.PairClaims.Verdict.{passes, fails21, fails22, fails23, fails24, fails25, differs25, fails26, fails27}
-use Rattle.model.proofs.Pairs.{first-of, first25, if-made, square}
+use Rattle.model.proofs.Pairs.{first-of, first25, square}
 use Rattle.model.proofs.Pairs.{all22, all25, all26, all27, stopped22, stopped25, stopped26, stopped27, most22, most25, most26, most27}
 
 -- what holds where a check fails, and where it passes, holds of what the check decides
@@ -138,25 +139,35 @@ module _ (n i : ℕ) (m : Member) (newest stored : Rec) (own : Within n i) (slot
       (λ c. by-check AtHalt (check24 r stored) (λ d. at24 past)
       (λ d. from25 past))))
 
-  most : (halt : ℕ) → sums halt ≤ mostPairs n
+-- At most: no check looks at more than all its pairs, and one that is not made at none.
+
+pub if-made : (halt number pairs : ℕ) → ifMade halt number pairs ≤ pairs
+unfolding ifMade
+if-made halt number pairs = split (λ x. x ≤ pairs) (eqb halt 0 || leb number halt) (λ e. le-refl pairs) (λ e. omega arith)
+
+module _ (n i : ℕ) (m : Member) (newest stored : Rec) (own : Within n i) (slot : Within n (m .slot)) where
+  most : (halt : ℕ) → sums n i m newest stored own slot halt ≤ mostPairs n
   unfolding sums mostPairs pairs23 p22 p25 p26 p27
   most halt = omega (
     arith,
-    most22 n i r own (m .known) latest,
-    most25 n kept latest,
-    most26 n r slot (m .known) latest,
-    most27 n i r slot (m .accepted) latest,
+    most22 n i (m .slot) own (m .known) (newest .matrix),
+    most25 n (stored .matrix) (newest .matrix),
+    most26 n (m .slot) slot (m .known) (newest .matrix),
+    most27 n i (m .slot) slot (m .accepted) (newest .matrix),
     square n (omega (arith, own .least, own .most)),
-    if-made halt 22 p22,
+    if-made halt 22 (pairs22 n i (m .slot) (m .known) (newest .matrix)),
     if-made halt 23 1,
-    if-made halt 25 p25,
-    if-made halt 26 p26,
-    if-made halt 27 p27,
+    if-made halt 25 (pairs25 n (stored .matrix) (newest .matrix)),
+    if-made halt 26 (pairs26 n (m .slot) (m .known) (newest .matrix)),
+    if-made halt 27 (pairs27 n i (m .slot) (m .accepted) (newest .matrix)),
   )
 
   pub pairs-as-asked : (seals : ℕ) → PairsAsAsked n i m newest stored seals
   unfolding haltPairs sums AtHalt p22 p25 p26 p27
-  pairs-as-asked seals = record { verdict = verdict seals; most = most (haltNumber n i m newest stored seals) }
+  pairs-as-asked seals = record {
+    verdict = verdict n i m newest stored own slot seals;
+    most = most (haltNumber n i m newest stored seals);
+  }
 
 -- "300 for n = 12"
 pub ceilings : Ceilings

@@ -2,17 +2,17 @@
 -- one that failed at all up to the first that fails; what the places up to one cost is a sum that grows with them.
 use Prim.Native.Nat.{ℕ, zero, suc, _+_, _-_, _*_, _≤_}
 use mathlib.Core.Path.{_≡_, refl, sym, ap, _∙_}
-use mathlib.Core.Bool.{Bool, true, false, _||_}
+use mathlib.Core.Bool.{Bool, true, false}
 use native.Mathlib.Nat.{le-refl, zero-mul, suc-mul, one-mul, add-mul}
 use native.Mathlib.Omega.{arith}
-use lib.Dec.{eqb, leb}
+use lib.Dec.{eqb}
 use borrow.Author.Tests.{eqb-true, eqb-false}
 use Rattle.lists.specs.Functions.{each, inside, looked, Within}
 use Rattle.lists.proofs.Functions.{on, apart, split, each-at, inside-in, inside-above, inside-low, inside-high}
 use Rattle.lists.proofs.Looked.{looked-stops, looked-sum, looked-most}
 use Rattle.model.specs.Rows.{Matrix, matrixBelow}
 use Rattle.model.specs.Member.{entry22, row26, row27, check22, check26, check27}
-use Rattle.model.specs.Pairs.{otherwise, pairs22, pairs25, pairs26, pairs27, rowPairs25, row25, ifMade}
+use Rattle.model.specs.Pairs.{otherwise, pairs22, pairs25, pairs26, pairs27, rowPairs25, row25}
 use Rattle.model.specs.PairClaims.{First, others}
 
 -- Places in turn.
@@ -100,11 +100,6 @@ rowPairs25-most n a b = most-looked (all-rows n) n (row25 n a b)
 pub square : (n : ℕ) → 1 ≤ n → n * n ≡ (n - 1) * n + n
 square zero p = absurd (omega arith)
 square (suc n) p = suc-mul n (suc n) ∙ ap (λ x. x * suc n + suc n) (let e : n ≡ suc n - 1 = omega arith in e)
-
--- a check that is not made looks at nothing
-pub if-made : (halt number pairs : ℕ) → ifMade halt number pairs ≤ pairs
-unfolding ifMade
-if-made halt number pairs = split (λ x. x ≤ pairs) (eqb halt 0 || leb number halt) (λ e. le-refl pairs) (λ e. omega arith)
 
 -- Each check.
 

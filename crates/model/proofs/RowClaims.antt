@@ -67,10 +67,7 @@ so n a b isCrossed h = rw (
 
 -- does an entry of the first row exceed its fellow; does one of the second's
 abbrev pub byFlags : Bool → Bool → Comparison
-byFlags false false = isEqual
-byFlags false true = isBelow
-byFlags true false = isAbove
-byFlags true true = isCrossed
+byFlags exceeds exceeded = cond exceeds (cond exceeded isCrossed isAbove) (cond exceeded isBelow isEqual)
 
 pub compared-flags : (n : ℕ) (a b : Row) → compared n a b ≡ byFlags (not (below n a b)) (not (below n b a))
 compared-flags n a b = on (below n a b)

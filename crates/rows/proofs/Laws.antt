@@ -7,11 +7,11 @@ use lib.Dec.{leb, ltb}
 use borrow.Author.Tests.{leb-true, leb-false, lt-ltb, le-ltb}
 use native.Mathlib.Omega.{arith}
 use lib.ListN.{length, getD, set, replicate}
-use Rattle.lists.specs.Functions.{put, pasted, numbered, each}
+use Rattle.lists.specs.Functions.{put, pasted, numbered}
 use Rattle.lists.specs.Parts.{words}
-use Rattle.lists.proofs.Functions.{on, numbered-at, numbered-put, numbered-padded, numbered-blank, each-step, each-more, each-fails}
+use Rattle.lists.proofs.Functions.{on, numbered-at, numbered-put, numbered-padded, numbered-blank, each-step}
 use Rattle.lists.proofs.Parts.{seen, seen-replicate, words-set, words-zeros}
-use Rattle.model.specs.Rows.{Row as RowOf, zeroRow, zeroMatrix, below, comparable, matrixBelow, Comparison, compared, equalOrBelow, crossed}
+use Rattle.model.specs.Rows.{Row as RowOf, zeroRow, zeroMatrix, below, comparable, Comparison, compared, equalOrBelow, crossed}
 use Rattle.model.proofs.RowClaims.{byFlags, compared-flags, rows-compared}
 use Rattle.model.specs.RecordWords.{rowOf}
 use Rattle.rows.specs.declared.Row.{Row}
@@ -52,9 +52,10 @@ flag-more a b i h e =
     (exceeding (below i (rowIn a) (rowIn b)) (words (a .counts) i) (words (b .counts) i))
 
 -- the answer by the two flags over all n entries
-pub flags-decide : (n i : ℕ) (a b : Row) → i ≡ n → {f g p q : Bool} → f ≡ not (below i (rowIn a) (rowIn b))
-    → g ≡ not (below i (rowIn b) (rowIn a)) → f ≡ p → g ≡ q → compared n (rowIn a) (rowIn b) ≡ byFlags p q
-flags-decide n i a b h d e s t = rw (sym s, sym t, d, e, h) (compared-flags n (rowIn a) (rowIn b))
+pub flags-decide : (n i : ℕ) (a b : Row) → i ≡ n → {f g : Bool} → f ≡ not (below i (rowIn a) (rowIn b))
+    → g ≡ not (below i (rowIn b) (rowIn a))
+    → compared n (rowIn a) (rowIn b) ≡ byFlags f g
+flags-decide n i a b h {f} {g} d e = rw (d, e, h) (compared-flags n (rowIn a) (rowIn b))
 
 -- The words of the paper, by the answer that is at hand.
 

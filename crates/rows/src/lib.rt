@@ -1,6 +1,8 @@
 // Timestamp rows and matrices by value: one entry replaced, and comparison over the first n entries.
 ghost use mathlib.Core.Path.{_≡_};
+ghost use mathlib.Core.Bool.{true, cond};
 ghost use Prim.Native.Nat.{min};
+ghost use Rattle.model.specs.Rows.{isEqual, isBelow, isAbove, isCrossed};
 ghost use Rattle.model.specs.Rows.{compared, crossed, equalOrBelow, larger as largerOf, matrixBelow, withCount, zeroRow};
 ghost use Rattle.model.specs.Pairs.{rowPairs25};
 ghost use Rattle.rows.specs.Meaning.{rowIn, matrixIn, comparisonIn};
@@ -30,7 +32,38 @@ pub struct Check {
     pub pairs: u32,
 }
 
+impl Check {
+    // What is skipped passes, and nothing is compared.
+    pub fn skipped() -> Check
+        ensures { λ r. ⌜ (r .passed ≡ true) × (r .pairs ≡ 0) ⌝ }
+    {
+        Check {
+            passed: true,
+            pairs: 0,
+        }
+    }
+}
+
 impl Comparison {
+    // Which it is, by whether an entry of the first row exceeds its fellow, and whether one of the second does.
+    fn by_flags(exceeds: bool, exceeded: bool) -> Comparison
+        ensures { λ r. ⌜ comparisonIn r ≡ cond exceeds (cond exceeded isCrossed isAbove) (cond exceeded isBelow isEqual) ⌝ }
+    {
+        if exceeds {
+            if exceeded {
+                Comparison::Crossed
+            } else {
+                Comparison::Above
+            }
+        } else {
+            if exceeded {
+                Comparison::Below
+            } else {
+                Comparison::Equal
+            }
+        }
+    }
+
     // What check 25 asks, and what decides which row is the larger.
     pub fn equal_or_below(self) -> bool
         ensures { λ r. ⌜ r ≡ equalOrBelow (comparisonIn self) ⌝ }
@@ -106,31 +139,8 @@ impl Row {
             pairs += 1;
             i += 1;
         }
-        if exceeds {
-            if exceeded {
-                Compared {
-                    answer: Comparison::Crossed,
-                    pairs,
-                }
-            } else {
-                Compared {
-                    answer: Comparison::Above,
-                    pairs,
-                }
-            }
-        } else {
-            if exceeded {
-                Compared {
-                    answer: Comparison::Below,
-                    pairs,
-                }
-            } else {
-                Compared {
-                    answer: Comparison::Equal,
-                    pairs,
-                }
-            }
-        }
+        let answer = Comparison::by_flags(exceeds, exceeded);
+        Compared { answer, pairs }
     }
 
     // The larger of two rows that are not crossed: the other one where this is equal or below, else this.

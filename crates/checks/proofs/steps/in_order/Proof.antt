@@ -1,13 +1,12 @@
 -- `in_order` meets its contract: what is skipped passes, and else the rows are compared.
 use borrow.Author.Needs.{needs}
 use Prim.Native.Nat.{min}
-use mathlib.Core.Path.{refl}
 use Rattle.rows.proofs.Laws.{answer-comparable}
 use Rattle.checks.proofs.steps.in_order.Statement.{statement}
 use Rattle.checks.proofs.steps.in_order.Tie as tie
 
 returns : tie.Need-returns
-returns c = rw (c .if1 .taken) (refl, refl)
+returns c = rw (c .before .if1 .taken) (c .skipped .ensures)
 
 returns-2 : tie.Need-returns-2
 returns-2 c =
@@ -20,4 +19,4 @@ returns-2 c =
     )
 
 pub in-order-spec : {M : Type 1} → statement M
-in-order-spec = tie.close (tie.spec returns (λ c κs. search needs) (λ c κs. search needs) returns-2)
+in-order-spec = tie.close (tie.spec (λ c κs. search needs) returns (λ c κs. search needs) (λ c κs. search needs) returns-2)

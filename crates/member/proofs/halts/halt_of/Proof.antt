@@ -13,7 +13,7 @@ use Rattle.model.specs.Member.{check22, check23, check25, check26, check27, hal
 use Rattle.model.specs.Pairs.{pairs22, pairs23, pairs25, pairs26, pairs27, ifMade, haltPairs}
 use Rattle.model.specs.RecordWords.{matrixOf, rowOf}
 use Rattle.model.specs.Table.{acceptedAt, knownAt, memberOf, slotAt}
-use Rattle.model.proofs.Pairs.{if-made, most22, most25, most26, most27, square}
+use Rattle.model.proofs.Pairs.{most22, most25, most26, most27, square}
 use Rattle.laws.proofs.Records.{square-small}
 use Rattle.rows.specs.Meaning.{matrixIn, rowIn}
 use Rattle.records.specs.Meaning.{recordIn}
@@ -76,7 +76,47 @@ slot-halt-requires c κs = own-slot (c .before .before)
 abbrev read : tie.After-slot-halt → tie.After-load-row
 read c = c .before .before .before
 
--- the pairs of the first part, and of the second, are few
+abbrev past2 : tie.After-matrix-halt → tie.Else2
+past2 c = c .before
+
+abbrev after24 : tie.Else2 → tie.After-slot-halt
+after24 c = c .before .before
+
+returns-2 : tie.Need-returns-2
+returns-2 c =
+    let part = c .before .before in
+    let l = read part in
+    let a = begun l .args in
+    let e = part .slot-halt .ensures .0 in
+    let h = slot-stops (a .n) (a .member) (words (a .block .now)) (a .known) (l .load-row .result) (a .newest) (a .stored)
+    (known l) (accepted l) (sized l .before .if1 .left) (λ z. c .if2 .taken (e ∙ z)) in
+    (e ∙ sym (h .0), part .slot-halt .ensures .1 ∙ ap (slotSum _) e ∙ sym (h .1))
+
+matrix-halt-requires : tie.Need-matrix-halt-requires
+matrix-halt-requires c κs = own-slot (read (after24 c))
+
+abbrev after27 : tie.After-struct-known3 → tie.After-matrix-halt
+after27 c = c .before .before
+
+returns-3 : tie.Need-returns-3
+returns-3 c =
+    let part = after27 c in
+    let left = past2 part in
+    let before = after24 left in
+    let l = read before in
+    let a = begun l .args in
+    let e = before .slot-halt .ensures .0 in
+    let f = part .matrix-halt .ensures .0 in
+    let h = slot-passes (a .n) (a .member) (words (a .block .now)) (a .known) (l .load-row .result) (a .newest) (a .stored)
+    (known l) (accepted l) (sized l .before .if1 .left) (sym e ∙ left .if2 .left) in (
+      f ∙ sym (h .0),
+      ap₂ (λ x y. x + y) (before .slot-halt .ensures .1 ∙ ap (slotSum _) (left .if2 .left))
+          (part .matrix-halt .ensures .1 ∙ ap (matrixSum _ _ _) f)
+          ∙ sym (h .1),
+    )
+
+-- The pairs of the first part, and of the second, are few, so that their sum is a number.
+
 few22 : (c : tie.After-slot-halt) → c .slot-halt .result .pairs ≤ 12
 few22 c =
     let a = begun (read c) .args in
@@ -89,12 +129,6 @@ few22 c =
       slotSum-most (pairs22 (a .n) (a .member) (slot (read c)) (matrixIn (a .known)) (matrixIn (a .newest .matrix))) (c .slot-halt .result .number),
       most22 (a .n) (a .member) (slot (read c)) (own .1 .0) (matrixIn (a .known)) (matrixIn (a .newest .matrix)),
     )
-
-abbrev past2 : tie.After-matrix-halt → tie.Else2
-past2 c = c .before
-
-abbrev after24 : tie.Else2 → tie.After-slot-halt
-after24 c = c .before .before
 
 few25 : (c : tie.After-matrix-halt) → c .matrix-halt .result .pairs ≤ 301
 few25 c =
@@ -118,41 +152,8 @@ few25 c =
       square-small (a .n) (own .0),
     )
 
-returns-2 : tie.Need-returns-2
-returns-2 c =
-    let part = c .before .before in
-    let l = read part in
-    let a = begun l .args in
-    let e = part .slot-halt .ensures .0 in
-    let h = slot-stops (a .n) (a .member) (words (a .block .now)) (a .known) (l .load-row .result) (a .newest) (a .stored)
-    (known l) (accepted l) (sized l .before .if1 .left) (λ z. c .if2 .taken (e ∙ z)) in
-    (e ∙ sym (h .0), part .slot-halt .ensures .1 ∙ ap (slotSum _) e ∙ sym (h .1))
-
-matrix-halt-requires : tie.Need-matrix-halt-requires
-matrix-halt-requires c κs = own-slot (read (after24 c))
-
-abbrev after27 : tie.After-struct-known3 → tie.After-matrix-halt
-after27 c = c .before .before
-
 add-pairs : tie.Need-add-pairs
 add-pairs c = omega (arith, few22 (after24 (past2 (after27 c))), few25 (after27 c))
-
-returns-3 : tie.Need-returns-3
-returns-3 c =
-    let part = after27 c in
-    let left = past2 part in
-    let before = after24 left in
-    let l = read before in
-    let a = begun l .args in
-    let e = before .slot-halt .ensures .0 in
-    let f = part .matrix-halt .ensures .0 in
-    let h = slot-passes (a .n) (a .member) (words (a .block .now)) (a .known) (l .load-row .result) (a .newest) (a .stored)
-    (known l) (accepted l) (sized l .before .if1 .left) (sym e ∙ left .if2 .left) in (
-      f ∙ sym (h .0),
-      ap₂ (λ x y. x + y) (before .slot-halt .ensures .1 ∙ ap (slotSum _) (left .if2 .left))
-          (part .matrix-halt .ensures .1 ∙ ap (matrixSum _ _ _) f)
-          ∙ sym (h .1),
-    )
 
 pub halt-of-spec : {M : Type 1} → statement M
 halt-of-spec =

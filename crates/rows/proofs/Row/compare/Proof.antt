@@ -1,12 +1,11 @@
 -- `Row::compare` meets its contract: of the entries looked at, the flags say whether one exceeds its fellow. Assumes nothing.
 use borrow.Author.Needs.{needs}
 use Prim.Native.Nat.{_-_, _≤_, _<_, min}
-use mathlib.Core.Path.{_≡_, sym, ap}
-use mathlib.Core.Bool.{Bool, not}
+use mathlib.Core.Path.{_≡_, sym, ap, _∙_}
+use mathlib.Core.Bool.{not}
 use native.Mathlib.Omega.{arith}
 use Rattle.lists.proofs.Functions.{each-none}
-use Rattle.model.specs.Rows.{below, compared}
-use Rattle.model.proofs.RowClaims.{byFlags}
+use Rattle.model.specs.Rows.{below}
 use Rattle.rows.specs.Meaning.{rowIn}
 use Rattle.rows.proofs.Laws.{flag-more, flags-decide}
 use Rattle.rows.proofs.Row.compare.Statement.{statement}
@@ -42,34 +41,20 @@ loop-again c =
     let second = flag-more (a .t2) (a .t1) (l .i) h (flags .1) in
     (search needs, (search needs, (omega arith, (first, second))))
 
--- once every entry is passed, the flags decide, and all were looked at
-decided : {p q : Bool} (c : tie.After-loop Inv-loop μ-loop) →
-    let loop = c .before in
-    let a = start loop .args in
-    loop .loop .exceeds ≡ p → loop .loop .exceeded ≡ q
-    → (byFlags p q ≡ compared (min (a .n) 12) (rowIn (a .t1)) (rowIn (a .t2))) × (loop .loop .pairs ≡ min (a .n) 12)
-decided c s t =
-    let loop = c .before in
+-- once every entry is passed the flags decide, and all entries were looked at
+returns : tie.Need-returns Inv-loop μ-loop
+returns c =
+    let loop = c .before .before in
     let a = start loop .args in
     let l = loop .loop in
     let flags = l .inv .1 .1 .1 in
-    (sym (flags-decide (min (a .n) 12) (l .i) (a .t1) (a .t2) (omega arith) (flags .0) (flags .1) s t), omega arith)
-
-returns : tie.Need-returns Inv-loop μ-loop
-returns c = decided (c .before .before) (c .before .if1 .taken) (c .if2 .taken)
-
-returns-2 : tie.Need-returns-2 Inv-loop μ-loop
-returns-2 c = decided (c .before .before) (c .before .if1 .taken) (c .if2 .left)
-
-returns-3 : tie.Need-returns-3 Inv-loop μ-loop
-returns-3 c = decided (c .before .before) (c .before .if1 .left) (c .if3 .taken)
-
-returns-4 : tie.Need-returns-4 Inv-loop μ-loop
-returns-4 c = decided (c .before .before) (c .before .if1 .left) (c .if3 .left)
+    let decided = flags-decide (min (a .n) 12) (l .i) (a .t1) (a .t2) (omega arith) (flags .0) (flags .1) in
+    (c .by-flags .ensures ∙ sym decided, omega arith)
 
 pub compare-spec : {M : Type 1} → statement M
 compare-spec =
     tie.close
     (tie.spec
     Inv-loop μ-loop (λ c κs. search needs) loop-holds (λ c. search needs) (λ c. search needs) (λ c. search needs)
-    (λ c. search needs) (λ c. search needs) (λ c. search needs) (λ c. search needs) loop-again returns returns-2 returns-3 returns-4)
+    (λ c. search needs) (λ c. search needs) (λ c. search needs) (λ c. search needs) loop-again
+    (λ c κs. search needs) returns)
