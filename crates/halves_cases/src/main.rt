@@ -94,7 +94,7 @@ fn record(member: u32, first: Row, second: Row, third: Row) -> Record {
     r
 }
 
-// A reply that passes; 21, and a call that is refused; then 22 and 23 in the slot's row, where the known one stands from word 27 on, and 24.
+// A reply that passes; 21, and a call that is refused; then 22, 23 and 24. Known row 1, the slot's, stands from word 27 on.
 fn slot_pairs() {
     let zero = Row::ZERO;
     let none = Record::opening(1);

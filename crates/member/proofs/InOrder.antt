@@ -7,7 +7,6 @@ use native.Mathlib.Omega.{arith}
 use lib.Dec.{eqb}
 use borrow.Author.Tests.{eq-eqb, ne-eqb}
 use Rattle.lists.specs.Functions.{from}
-use Rattle.lists.specs.Parts.{words}
 use Rattle.model.specs.Rows.{Matrix}
 use Rattle.model.specs.Records.{Rec}
 use Rattle.model.specs.Member.{Member, check21, check22, check23, check24, check25, check26, check27, haltNumber}

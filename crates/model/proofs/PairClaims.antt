@@ -11,12 +11,14 @@ use Rattle.lists.specs.Functions.{Within}
 use Rattle.lists.proofs.Functions.{on, split, first}
 use Rattle.model.specs.Rows.{Matrix, matrixBelow}
 use Rattle.model.specs.Records.{Rec}
-use Rattle.model.specs.Member.{Member, entry22, row26, row27, check21, check22, check23, check24, check25, check26, check27, haltNumber}
+use Rattle.model.specs.Member.{Member, entry22, row26, row27, haltNumber}
+use Rattle.model.specs.Member.{check21, check22, check23, check24, check25, check26, check27}
 use Rattle.model.specs.Pairs.{pairs22, pairs23, pairs25, pairs26, pairs27, ifMade, haltPairs, mostPairs}
 use Rattle.model.specs.PairClaims.{Verdict, PairsAsAsked, Ceilings}
 use Rattle.model.specs.PairClaims.Verdict.{passes, fails21, fails22, fails23, fails24, fails25, differs25, fails26, fails27}
 use Rattle.model.proofs.Pairs.{first-of, first25, square}
-use Rattle.model.proofs.Pairs.{all22, all25, all26, all27, stopped22, stopped25, stopped26, stopped27, most22, most25, most26, most27}
+use Rattle.model.proofs.Pairs.{all22, all25, all26, all27, stopped22, stopped25, stopped26, stopped27}
+use Rattle.model.proofs.Pairs.{most22, most25, most26, most27}
 
 -- what holds where a check fails, and where it passes, holds of what the check decides
 by-check : {A : Type 0} (P : A → Type 0) (t : Bool) {x y : A} → (t ≡ false → P x) → (t ≡ true → P y) → P (cond (not t) x y)

@@ -29,7 +29,12 @@ first-of (suc n) test h = on (each n test)
       before = λ k p q. each-at n test e k p (omega arith);
     })
     (λ e. let f = first-of n test e in
-    record { at = f .at; within = record { least = f .within .least; most = omega (arith, f .within .most) }; fails = f .fails; before = f .before })
+    record {
+      at = f .at;
+      within = record { least = f .within .least; most = omega (arith, f .within .most) };
+      fails = f .fails;
+      before = f .before;
+    })
 
 -- What the places up to one cost.
 

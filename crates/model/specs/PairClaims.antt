@@ -41,7 +41,8 @@ module _ (n i : ℕ) (m : Member) (newest stored : Rec) where
     fails22 : (k : First n (entry22 i (m .slot) (m .known) (newest .matrix))) → Verdict 22 (others (k .at) i)
     fails23 : Verdict 23 (to23 n)
     fails24 : Verdict 24 (to23 n)
-    -- "in 25 and 26 the row that fails is looked at to its end, and the pair at r in row r is 25's last, looked at only where no row failed"
+    -- "in 25 and 26 the row that fails is looked at to its end, and the pair at r in row r is 25's last, looked at only where no row
+    -- failed"
     fails25 : (j : First n (row25 n (stored .matrix) (newest .matrix))) → Verdict 25 (to23 n + j .at * n)
     differs25 : matrixBelow n (stored .matrix) (newest .matrix) ≡ true → Verdict 25 (to25 n)
     fails26 : (j : First n (row26 n (m .slot) (m .known) (newest .matrix))) → Verdict 26 (to25 n + others (j .at) (m .slot) * n)

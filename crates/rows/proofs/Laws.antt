@@ -5,7 +5,6 @@ use mathlib.Core.List.{List}
 use mathlib.Core.Bool.{Bool, true, false, not, _&&_, _||_}
 use lib.Dec.{leb, ltb}
 use borrow.Author.Tests.{leb-true, leb-false, lt-ltb, le-ltb}
-use native.Mathlib.Omega.{arith}
 use lib.ListN.{length, getD, set, replicate}
 use Rattle.lists.specs.Functions.{put, pasted, numbered}
 use Rattle.lists.specs.Parts.{words}

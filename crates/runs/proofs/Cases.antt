@@ -38,11 +38,13 @@ use Rattle.runs.specs.Cases.{cases, example}
 pub all-pass : every holds cases ≡ true
 unfolding put from within inside each looked tabulate zeroRow zeroMatrix below matrixBelow comparable larger zeroValue zeroRecord opening
     isOperation barred becomesStored fieldsNumber beginAnswer deliverAnswer crashAnswer idle begun answered check21 check22 check23 check24
-    check25 check26 check27 haltNumber pairs22 pairs23 rowPairs25 pairs25 pairs26 pairs27 ifMade haltPairs joined ownRecord passed failed replied judged completed tookOver dropped outcome returnedBy
+    check25 check26 check27 haltNumber pairs22 pairs23 rowPairs25 pairs25 pairs26 pairs27 ifMade haltPairs joined ownRecord passed failed
+    replied judged completed tookOver dropped outcome returnedBy
     crashedOf submitted wins entryAfter storedAfter openingEntry opened withMember boardBegun submitTaken replyTaken sentRecord
     commitTaken outcomeTaken boardDelivered boardReturned boardCrashed answerOf done doneReturns after seenAt run left caller
     lastWord line printed rowsOf recordLine recordLines begunLine decidedLine submitLine nothingYet noOp begunOp submittedOp submitOf
-    decidedOp endedOp ended watchDeliver watchCall watchStep watchFrom watched unless failingOf takingOf lookingOf changed opensOf answerTo openNumber
+    decidedOp endedOp ended watchDeliver watchCall watchStep watchFrom watched unless failingOf takingOf lookingOf changed opensOf
+    answerTo openNumber
     openWords tableWords memberWords entryWords hostWords laid tableSize hostAt hostSize blockSize entrySize newestAt secondAt
     firstAt knownAt pendingAt lastAt acceptedAt recordSize matrixWord recordWords kindOf numberBytes byteIn headed recordByte
     recordLength recordBytes fieldBytes framed encode found every alike holds

@@ -58,7 +58,9 @@ opening n words number changed = record {
 }
 
 abbrev pub p1 : List Case
-p1 = opening 1 79 0 79 ∷ opening 0 79 1 0 ∷ opening 13 79 1 0 ∷ opening 1 78 2 0 ∷ opening 1 80 2 0 ∷ opening 13 78 1 0 ∷ opening 2 191 0 191 ∷ []
+p1 =
+    opening 1 79 0 79 ∷ opening 0 79 1 0 ∷ opening 13 79 1 0 ∷ opening 1 78 2 0 ∷ opening 1 80 2 0 ∷ opening 13 78 1 0
+    ∷ opening 2 191 0 191 ∷ []
 
 -- Refused begins.
 

@@ -6,11 +6,11 @@ use mathlib.Core.Bool.{Bool}
 use mathlib.Core.List.{List}
 use native.Mathlib.Omega.{arith}
 use lib.ListN.{getD}
-use Rattle.model.specs.Rows.{below, matrixBelow}
+use Rattle.model.specs.Rows.{matrixBelow}
 use Rattle.model.specs.Pairs.{row25, rowPairs25}
 use Rattle.laws.proofs.Tests.{Walked, walk-starts, walks-on, walk-stops, walk-ends}
 use Rattle.rows.specs.declared.Row.{Row}
-use Rattle.rows.specs.Meaning.{rowIn, matrixIn, noRow}
+use Rattle.rows.specs.Meaning.{matrixIn, noRow}
 use Rattle.rows.proofs.Laws.{row-at, answer-below}
 use Rattle.rows.proofs.matrix_below.Statement.{statement}
 use Rattle.rows.proofs.matrix_below.Tie as tie
@@ -48,7 +48,8 @@ tested c =
     let j = loop .loop .j in
     let h : j < 12 = omega arith in
     rw (row-at (a .t1) j h, row-at (a .t2) j h)
-    (answer-below (min (a .n) 12) (getD (a .t1) j noRow) (getD (a .t2) j noRow) (compared c .compare .ensures .0) (c .equal-or-below .ensures))
+    (answer-below (min (a .n) 12) (getD (a .t1) j noRow) (getD (a .t2) j noRow) (compared c .compare .ensures .0)
+    (c .equal-or-below .ensures))
 
 loop-holds : tie.Need-loop-holds Inv-loop μ-loop
 loop-holds c = (search needs, (omega arith, walk-starts _ _ 12))
@@ -71,7 +72,8 @@ loop-again c =
       search needs,
       (
         search needs,
-        walks-on (test (a .n) (a .t1) (a .t2)) (cost (a .n)) 12 (loop .loop .inv .1 .1) (tested (c .before)) e (omega (arith, e)) (c .if1 .left),
+        walks-on (test (a .n) (a .t1) (a .t2)) (cost (a .n)) 12 (loop .loop .inv .1 .1) (tested (c .before)) e (omega (arith, e))
+            (c .if1 .left),
       ),
     )
 

@@ -1,6 +1,6 @@
 -- `matrix_halt` meets its contract: each check that passed leaves the rest of the chain, and the pairs are those of the checks made.
 use borrow.Author.Needs.{needs}
-use Prim.Native.Nat.{_-_, _*_, _≤_}
+use Prim.Native.Nat.{_-_, _≤_}
 use mathlib.Core.Path.{_≡_, refl}
 use mathlib.Core.Bool.{true}
 use native.Mathlib.Omega.{arith}
@@ -35,8 +35,10 @@ after27 c = c .before .before
 -- The pairs of each are few.
 
 few25 : (c : tie.After-check-25) → c .check-25 .result .pairs ≤ 145
-few25 c = let a = start c .args in
-    omega (arith, c .check-25 .ensures .1, most25 (a .n) (matrixIn (a .stored)) (matrixIn (a .newest)), square-small (a .n) (start c .pre .0))
+few25 c =
+    let a = start c .args in
+    let most = most25 (a .n) (matrixIn (a .stored)) (matrixIn (a .newest)) in
+    omega (arith, c .check-25 .ensures .1, most, square-small (a .n) (start c .pre .0))
 
 few26 : (c : tie.After-check-26) → c .check-26 .result .pairs ≤ 144
 few26 c =

@@ -7,7 +7,7 @@ use native.Mathlib.Omega.{arith}
 use borrow.Author.Tests.{eq-eqb, ne-eqb}
 use Rattle.lists.proofs.Functions.{widened}
 use Rattle.model.specs.Member.{check22, check23}
-use Rattle.model.specs.Pairs.{pairs22, pairs23, ifMade}
+use Rattle.model.specs.Pairs.{pairs23, ifMade}
 use Rattle.model.proofs.Pairs.{most22}
 use Rattle.rows.specs.Meaning.{rowIn, matrixIn}
 use Rattle.laws.proofs.Tests.{refused, allowed}
@@ -22,8 +22,10 @@ abbrev after22 : tie.Else1 → tie.After-check-22
 after22 c = c .before .before
 
 few : (c : tie.After-check-22) → c .check-22 .result .pairs ≤ 12
-few c = let a = start c .args in
-    omega (arith, c .check-22 .ensures .1, most22 (a .n) (a .member) (a .slot) (start c .pre .1 .0) (matrixIn (a .known)) (matrixIn (a .newest)))
+few c =
+    let a = start c .args in
+    let most = most22 (a .n) (a .member) (a .slot) (start c .pre .1 .0) (matrixIn (a .known)) (matrixIn (a .newest)) in
+    omega (arith, c .check-22 .ensures .1, most)
 
 passed22 : (c : tie.Else1) → let a = start (after22 c) .args in
     check22 (a .n) (a .member) (a .slot) (matrixIn (a .known)) (matrixIn (a .newest)) ≡ true

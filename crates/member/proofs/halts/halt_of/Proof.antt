@@ -3,21 +3,18 @@
 use borrow.Author.Needs.{needs}
 use Prim.Native.Nat.{ℕ, _+_, _≤_}
 use native.Mathlib.Omega.{arith}
-use mathlib.Core.Bool.{Bool, cond, not}
 use mathlib.Core.Path.{_∙_, _≡_, sym, ap, ap₂}
-use lib.Dec.{eqb}
-use borrow.Author.Tests.{eq-eqb, ne-eqb}
 use Rattle.lists.specs.Functions.{from, Within}
 use Rattle.lists.specs.Parts.{words}
-use Rattle.model.specs.Member.{check22, check23, check25, check26, check27, haltNumber}
-use Rattle.model.specs.Pairs.{pairs22, pairs23, pairs25, pairs26, pairs27, ifMade, haltPairs}
+use Rattle.model.specs.Pairs.{pairs22, pairs25, pairs26, pairs27}
 use Rattle.model.specs.RecordWords.{matrixOf, rowOf}
 use Rattle.model.specs.Table.{acceptedAt, knownAt, memberOf, slotAt}
 use Rattle.model.proofs.Pairs.{most22, most25, most26, most27, square}
 use Rattle.laws.proofs.Records.{square-small}
 use Rattle.rows.specs.Meaning.{matrixIn, rowIn}
 use Rattle.records.specs.Meaning.{recordIn}
-use Rattle.member.proofs.InOrder.{unsealed, unsealed-pairs, slot-stops, slot-passes, slotSum, matrixSum, slotSum-most, matrixSum-most}
+use Rattle.member.proofs.InOrder.{unsealed, unsealed-pairs, slot-stops, slot-passes}
+use Rattle.member.proofs.InOrder.{slotSum, matrixSum, slotSum-most, matrixSum-most}
 use Rattle.member.proofs.Sizes.{accepted-room, head-room, running-slot}
 use Rattle.member.proofs.halts.halt_of.Statement.{statement}
 use Rattle.member.proofs.halts.halt_of.Tie as tie
@@ -121,12 +118,13 @@ few22 : (c : tie.After-slot-halt) → c .slot-halt .result .pairs ≤ 12
 few22 c =
     let a = begun (read c) .args in
     let own = own-slot (read c) in
+    let p22 = pairs22 (a .n) (a .member) (slot (read c)) (matrixIn (a .known)) (matrixIn (a .newest .matrix)) in
     omega (
       arith,
       c .slot-halt .ensures .1,
       own .0,
       own .1 .0 .least,
-      slotSum-most (pairs22 (a .n) (a .member) (slot (read c)) (matrixIn (a .known)) (matrixIn (a .newest .matrix))) (c .slot-halt .result .number),
+      slotSum-most p22 (c .slot-halt .result .number),
       most22 (a .n) (a .member) (slot (read c)) (own .1 .0) (matrixIn (a .known)) (matrixIn (a .newest .matrix)),
     )
 
