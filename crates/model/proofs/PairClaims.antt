@@ -164,12 +164,23 @@ module _ (n i : ℕ) (m : Member) (newest stored : Rec) (own : Within n i) (slot
     if-made halt 27 (pairs27 n i (m .slot) (m .accepted) (newest .matrix)),
   )
 
+  -- of the verdicts one alone has the number 0
+  exactly : {halt pairs : ℕ} → Verdict n i m newest stored halt pairs → halt ≡ 0 → pairs ≡ mostPairs n
+  exactly passes e = refl
+  exactly fails21 e = absurd (omega arith)
+  exactly (fails22 k) e = absurd (omega arith)
+  exactly fails23 e = absurd (omega arith)
+  exactly fails24 e = absurd (omega arith)
+  exactly (fails25 j) e = absurd (omega arith)
+  exactly (differs25 b) e = absurd (omega arith)
+  exactly (fails26 j) e = absurd (omega arith)
+  exactly (fails27 j) e = absurd (omega arith)
+
   pub pairs-as-asked : (seals : ℕ) → PairsAsAsked n i m newest stored seals
   unfolding haltPairs sums AtHalt p22 p25 p26 p27
-  pairs-as-asked seals = record {
-    verdict = verdict n i m newest stored own slot seals;
-    most = most (haltNumber n i m newest stored seals);
-  }
+  pairs-as-asked seals =
+      let found = verdict n i m newest stored own slot seals in
+      record { verdict = found; most = most (haltNumber n i m newest stored seals); exactly = exactly found }
 
 -- "300 for n = 12"
 pub ceilings : Ceilings

@@ -50,8 +50,9 @@ module _ (n i : ℕ) (m : Member) (newest stored : Rec) where
 
 pub record PairsAsAsked (n i : ℕ) (m : Member) (newest stored : Rec) (seals : ℕ) : Type 0 where
   pub verdict : Verdict n i m newest stored (haltNumber n i m newest stored seals) (haltPairs n i m newest stored seals)
-  -- "The number is never above 2n² + n"
+  -- "The number is never above 2n² + n, and an accepted reply gives exactly that"
   pub most : haltPairs n i m newest stored seals ≤ mostPairs n
+  pub exactly : haltNumber n i m newest stored seals ≡ 0 → haltPairs n i m newest stored seals ≡ mostPairs n
 
 -- ".. 300 for n = 12"; a board of one has the pair of 23 and the two of 25
 abbrev pub Ceilings : Type 0
