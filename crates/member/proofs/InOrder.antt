@@ -1,5 +1,5 @@
 -- The chain of a reply's checks in two parts, as the code has it: the number, and the pairs of the checks made.
-use Prim.Native.Nat.{ℕ, _+_, _≤_}
+use Prim.Native.Nat.{ℕ, _+_}
 use mathlib.Core.Path.{_≡_, refl, _∙_}
 use mathlib.Core.Bool.{Bool, true, false, cond, not}
 use mathlib.Core.List.{List}
@@ -11,7 +11,7 @@ use Rattle.model.specs.Rows.{Matrix}
 use Rattle.model.specs.Records.{Rec}
 use Rattle.model.specs.Member.{Member, check21, check22, check23, check24, check25, check26, check27, haltNumber}
 use Rattle.model.specs.Pairs.{pairs22, pairs23, pairs25, pairs26, pairs27, ifMade, haltPairs}
-use Rattle.model.proofs.PairClaims.{if-made}
+use Rattle.model.proofs.PairClaims.{sums}
 use Rattle.model.specs.RecordWords.{matrixOf, rowOf}
 use Rattle.model.specs.Table.{acceptedAt, knownAt, memberOf, slotAt}
 use Rattle.rows.specs.Meaning.{matrixIn, rowIn}
@@ -23,24 +23,12 @@ use Rattle.records.specs.declared.Record.{Record}
 abbrev three : ℕ → ℕ → ℕ → Bool → Bool → Bool → ℕ → ℕ
 three j k l a b c rest = cond (not a) j (cond (not b) k (cond (not c) l rest))
 
--- the pairs of 22 and 23, of 25 to 27, and of all, by the halt number
+-- the pairs of 22 and 23, and of 25 to 27, by the halt number
 abbrev pub slotSum : ℕ → ℕ → ℕ
 slotSum p22 halt = ifMade halt 22 p22 + ifMade halt 23 pairs23
 
 abbrev pub matrixSum : ℕ → ℕ → ℕ → ℕ → ℕ
 matrixSum p25 p26 p27 halt = ifMade halt 25 p25 + ifMade halt 26 p26 + ifMade halt 27 p27
-
-abbrev sums : ℕ → ℕ → ℕ → ℕ → ℕ → ℕ
-sums p22 p25 p26 p27 halt =
-    ifMade halt 22 p22 + ifMade halt 23 pairs23 + ifMade halt 25 p25 + ifMade halt 26 p26 + ifMade halt 27 p27
-
--- at most the pairs of each
-pub slotSum-most : (p22 halt : ℕ) → slotSum p22 halt ≤ p22 + 1
-unfolding pairs23
-slotSum-most p22 halt = omega (arith, if-made halt 22 p22, if-made halt 23 1)
-
-pub matrixSum-most : (p25 p26 p27 halt : ℕ) → matrixSum p25 p26 p27 halt ≤ p25 + p26 + p27
-matrixSum-most p25 p26 p27 halt = omega (arith, if-made halt 25 p25, if-made halt 26 p26, if-made halt 27 p27)
 
 -- A check of the first three failed: the rest is not looked at.
 

@@ -20,7 +20,7 @@ use Rattle.model.proofs.PairClaims.{pairs-as-asked}
 use Rattle.model.specs.Board.{sentRecord}
 use Rattle.model.specs.Table.{phaseAt, haltAt, slotAt, operationAt, ownAt, acceptedAt, lastAt, pendingAt, knownAt, firstAt, secondAt}
 use Rattle.model.specs.Table.{blockSize, memberOf}
-use Rattle.laws.proofs.Records.{recordOf-parts, recordOf-same, recordOf-words, within-read}
+use Rattle.laws.proofs.Records.{square-small, recordOf-parts, recordOf-same, recordOf-words, within-read}
 use Rattle.laws.proofs.Replies.{matrix-all, value-all, joined-within, haltNumber-within, haltPairs-within}
 use Rattle.laws.proofs.Steps.{Holds, holds-set, holds-copied, count-of, kept, moved-by, pasted-off}
 use Rattle.rows.specs.declared.Row.{Row}
@@ -156,6 +156,10 @@ pub few-pairs : {n i : ℕ} {l : List ℕ} → Running n l → Within n i → (n
     → pairs ≡ haltPairs n i (memberOf n (words l)) newest stored seals → pairs ≤ mostPairs n
 few-pairs {n} {i} {l} running member newest stored seals e =
     rw e (pairs-as-asked n i (memberOf n (words l)) newest stored member (running .slot) seals .most)
+
+pub ceiling-small : (n : ℕ) → n ≤ 12 → mostPairs n ≤ 300
+unfolding mostPairs
+ceiling-small n h = omega (arith, square-small n h)
 
 -- The record that a commit sends, as the code builds it.
 pub sent-built : (n i : ℕ) (w : ℕ → ℕ) (value : List ℕ) (matrix : List Row) {places : Places} → LayoutOf n places → Within n (w slotAt)

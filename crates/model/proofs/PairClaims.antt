@@ -24,6 +24,11 @@ use Rattle.model.proofs.Pairs.{most22, most25, most26, most27}
 by-check : {A : Type 0} (P : A → Type 0) (t : Bool) {x y : A} → (t ≡ false → P x) → (t ≡ true → P y) → P (cond (not t) x y)
 by-check P t p q = split P (not t) (λ e. p (not-true t e)) (λ e. q (not-false t e))
 
+-- the pairs of the checks that are made, by those of each and the halt number
+abbrev pub sums : ℕ → ℕ → ℕ → ℕ → ℕ → ℕ
+sums p22 p25 p26 p27 halt =
+    ifMade halt 22 p22 + ifMade halt 23 pairs23 + ifMade halt 25 p25 + ifMade halt 26 p26 + ifMade halt 27 p27
+
 module _ (n i : ℕ) (m : Member) (newest stored : Rec) (own : Within n i) (slot : Within n (m .slot)) where
   abbrev r : ℕ
   r = m .slot
@@ -46,24 +51,24 @@ module _ (n i : ℕ) (m : Member) (newest stored : Rec) (own : Within n i) (slot
   p27 : ℕ
   p27 = pairs27 n i r (m .accepted) latest
 
-  sums : ℕ → ℕ
-  sums halt = ifMade halt 22 p22 + ifMade halt 23 pairs23 + ifMade halt 25 p25 + ifMade halt 26 p26 + ifMade halt 27 p27
+  made : ℕ → ℕ
+  made = sums p22 p25 p26 p27
 
   AtHalt : ℕ → Type 0
-  AtHalt halt = Verdict n i m newest stored halt (sums halt)
+  AtHalt halt = Verdict n i m newest stored halt (made halt)
 
-  by-sum : {halt pairs : ℕ} → Verdict n i m newest stored halt pairs → sums halt ≡ pairs → AtHalt halt
+  by-sum : {halt pairs : ℕ} → Verdict n i m newest stored halt pairs → made halt ≡ pairs → AtHalt halt
   unfolding AtHalt
   by-sum {halt} v e = subst (Verdict n i m newest stored halt) (sym e) v
 
   -- The sum at each check that fails.
 
   at21 : AtHalt 21
-  unfolding sums ifMade
+  unfolding made ifMade
   at21 = by-sum fails21 refl
 
   at22 : check22 n i r (m .known) latest ≡ false → AtHalt 22
-  unfolding check22 p22 sums ifMade
+  unfolding check22 p22 made ifMade
   at22 e =
       let k = first-of n (entry22 i r (m .known) latest) e in
       by-sum (fails22 k) (omega (arith, stopped22 n i r (m .known) latest k))
@@ -76,16 +81,16 @@ module _ (n i : ℕ) (m : Member) (newest stored : Rec) (own : Within n i) (slot
   passed22 = all22 n i r own (m .known) latest
 
   at23 : Passed22 → AtHalt 23
-  unfolding sums ifMade pairs23 Passed22
+  unfolding made ifMade pairs23 Passed22
   at23 e = by-sum fails23 (omega (arith, e))
 
   at24 : Passed22 → AtHalt 24
-  unfolding sums ifMade pairs23 Passed22
+  unfolding made ifMade pairs23 Passed22
   at24 e = by-sum fails24 (omega (arith, e))
 
   -- 25 fails in a row, or in the pair at r in row r
   at25 : Passed22 → AtHalt 25
-  unfolding sums ifMade pairs23 p25 Passed22
+  unfolding made ifMade pairs23 p25 Passed22
   at25 e = on (matrixBelow n kept latest)
       (λ b. by-sum (differs25 b) (omega (arith, e, all25 n kept latest b)))
       (λ b. let j = first25 n kept latest b in by-sum (fails25 j) (omega (arith, e, stopped25 n kept latest b j)))
@@ -98,7 +103,7 @@ module _ (n i : ℕ) (m : Member) (newest stored : Rec) (own : Within n i) (slot
   passed25 e f = (e, all25 n kept latest (first (matrixBelow n kept latest) (eqb (kept r r) (latest r r)) f))
 
   at26 : Passed25 → check26 n r (m .known) latest ≡ false → AtHalt 26
-  unfolding Passed25 check26 p26 sums ifMade pairs23
+  unfolding Passed25 check26 p26 made ifMade pairs23
   at26 e f =
       let j = first-of n (row26 n r (m .known) latest) f in
       by-sum (fails26 j) (omega (arith, e .0, e .1, stopped26 n r (m .known) latest j))
@@ -111,13 +116,13 @@ module _ (n i : ℕ) (m : Member) (newest stored : Rec) (own : Within n i) (slot
   passed26 e f = (e .0, (e .1, all26 n r slot (m .known) latest f))
 
   at27 : Passed26 → check27 n i r (m .accepted) latest ≡ false → AtHalt 27
-  unfolding Passed26 check27 p27 sums ifMade pairs23
+  unfolding Passed26 check27 p27 made ifMade pairs23
   at27 e g =
       let j = first-of n (row27 i r (m .accepted) latest) g in
       by-sum (fails27 j) (omega (arith, e .0, e .1 .0, e .1 .1, stopped27 n i r (m .accepted) latest j))
 
   at0 : Passed26 → check27 n i r (m .accepted) latest ≡ true → AtHalt 0
-  unfolding Passed26 p27 sums ifMade pairs23 mostPairs
+  unfolding Passed26 p27 made ifMade pairs23 mostPairs
   at0 e g = by-sum passes
       (omega (arith, e .0, e .1 .0, e .1 .1, all27 n i r slot (m .accepted) latest g, square n (omega (arith, own .least, own .most))))
 
@@ -148,8 +153,8 @@ unfolding ifMade
 if-made halt number pairs = split (λ x. x ≤ pairs) (eqb halt 0 || leb number halt) (λ e. le-refl pairs) (λ e. omega arith)
 
 module _ (n i : ℕ) (m : Member) (newest stored : Rec) (own : Within n i) (slot : Within n (m .slot)) where
-  most : (halt : ℕ) → sums n i m newest stored own slot halt ≤ mostPairs n
-  unfolding sums mostPairs pairs23 p22 p25 p26 p27
+  most : (halt : ℕ) → made n i m newest stored own slot halt ≤ mostPairs n
+  unfolding made mostPairs pairs23 p22 p25 p26 p27
   most halt = omega (
     arith,
     most22 n i (m .slot) own (m .known) (newest .matrix),
@@ -177,7 +182,7 @@ module _ (n i : ℕ) (m : Member) (newest stored : Rec) (own : Within n i) (slot
   exactly (fails27 j) e = absurd (omega arith)
 
   pub pairs-as-asked : (seals : ℕ) → PairsAsAsked n i m newest stored seals
-  unfolding haltPairs sums AtHalt p22 p25 p26 p27
+  unfolding haltPairs made AtHalt p22 p25 p26 p27
   pairs-as-asked seals =
       let found = verdict n i m newest stored own slot seals in
       record { verdict = found; most = most (haltNumber n i m newest stored seals); exactly = exactly found }

@@ -6,15 +6,15 @@ use native.Mathlib.Omega.{arith}
 use mathlib.Core.Path.{_∙_, _≡_, sym, ap, ap₂}
 use Rattle.lists.specs.Functions.{from, Within}
 use Rattle.lists.specs.Parts.{words}
-use Rattle.model.specs.Pairs.{pairs22, pairs25, pairs26, pairs27}
+use Rattle.model.specs.Member.{haltNumber}
+use Rattle.model.specs.Pairs.{haltPairs}
 use Rattle.model.specs.RecordWords.{matrixOf, rowOf}
 use Rattle.model.specs.Table.{acceptedAt, knownAt, memberOf, slotAt}
-use Rattle.model.proofs.Pairs.{most22, most25, most26, most27, square}
-use Rattle.laws.proofs.Records.{square-small}
 use Rattle.rows.specs.Meaning.{matrixIn, rowIn}
 use Rattle.records.specs.Meaning.{recordIn}
 use Rattle.member.proofs.InOrder.{unsealed, unsealed-pairs, slot-stops, slot-passes}
-use Rattle.member.proofs.InOrder.{slotSum, matrixSum, slotSum-most, matrixSum-most}
+use Rattle.member.proofs.InOrder.{slotSum, matrixSum}
+use Rattle.member.proofs.Laws.{few-pairs, ceiling-small}
 use Rattle.member.proofs.Sizes.{accepted-room, head-room, running-slot}
 use Rattle.member.proofs.halts.halt_of.Statement.{statement}
 use Rattle.member.proofs.halts.halt_of.Tie as tie
@@ -95,8 +95,19 @@ matrix-halt-requires c κs = own-slot (read (after24 c))
 abbrev after27 : tie.After-struct-known3 → tie.After-matrix-halt
 after27 c = c .before .before
 
-returns-3 : tie.Need-returns-3
-returns-3 c =
+-- the second part says the number, and the pairs of both are the reply's
+abbrev Whole : tie.After-struct-known3 → Type 0
+Whole c =
+    let part = after27 c in
+    let before = after24 (past2 part) in
+    let a = begun (read before) .args in
+    let m = memberOf (a .n) (words (a .block .now)) in
+    (part .matrix-halt .result .number ≡ haltNumber (a .n) (a .member) m (recordIn (a .newest)) (recordIn (a .stored)) (a .seals))
+    × (before .slot-halt .result .pairs + part .matrix-halt .result .pairs
+    ≡ haltPairs (a .n) (a .member) m (recordIn (a .newest)) (recordIn (a .stored)) (a .seals))
+
+whole : (c : tie.After-struct-known3) → Whole c
+whole c =
     let part = after27 c in
     let left = past2 part in
     let before = after24 left in
@@ -112,46 +123,15 @@ returns-3 c =
           ∙ sym (h .1),
     )
 
--- The pairs of the first part, and of the second, are few, so that their sum is a number.
+returns-3 : tie.Need-returns-3
+returns-3 c = whole c
 
-few22 : (c : tie.After-slot-halt) → c .slot-halt .result .pairs ≤ 12
-few22 c =
-    let a = begun (read c) .args in
-    let own = own-slot (read c) in
-    let p22 = pairs22 (a .n) (a .member) (slot (read c)) (matrixIn (a .known)) (matrixIn (a .newest .matrix)) in
-    omega (
-      arith,
-      c .slot-halt .ensures .1,
-      own .0,
-      own .1 .0 .least,
-      slotSum-most p22 (c .slot-halt .result .number),
-      most22 (a .n) (a .member) (slot (read c)) (own .1 .0) (matrixIn (a .known)) (matrixIn (a .newest .matrix)),
-    )
-
-few25 : (c : tie.After-matrix-halt) → c .matrix-halt .result .pairs ≤ 301
-few25 c =
-    let l = read (after24 (past2 c)) in
-    let a = begun l .args in
-    let own = own-slot l in
-    let latest = matrixIn (a .newest .matrix) in
-    let p25 = pairs25 (a .n) (matrixIn (a .stored .matrix)) latest in
-    let p26 = pairs26 (a .n) (slot l) (matrixIn (a .known)) latest in
-    let p27 = pairs27 (a .n) (a .member) (slot l) (rowIn (l .load-row .result)) latest in
-    omega (
-      arith,
-      c .matrix-halt .ensures .1,
-      own .0,
-      own .1 .0 .least,
-      matrixSum-most p25 p26 p27 (c .matrix-halt .result .number),
-      most25 (a .n) (matrixIn (a .stored .matrix)) latest,
-      most26 (a .n) (slot l) (own .1 .1) (matrixIn (a .known)) latest,
-      most27 (a .n) (a .member) (slot l) (own .1 .1) (rowIn (l .load-row .result)) latest,
-      square (a .n) (omega (arith, own .1 .0 .least, own .1 .0 .most)),
-      square-small (a .n) (own .0),
-    )
-
+-- the ceiling is far below 2³²
 add-pairs : tie.Need-add-pairs
-add-pairs c = omega (arith, few22 (after24 (past2 (after27 c))), few25 (after27 c))
+add-pairs c =
+    let l = read (after24 (past2 (after27 c))) in
+    let s = begun l in
+    omega (arith, few-pairs (s .pre .0) (s .pre .1 .0) _ _ _ (whole c .1), ceiling-small (s .args .n) (own-slot l .0))
 
 pub halt-of-spec : {M : Type 1} → statement M
 halt-of-spec =
