@@ -326,9 +326,9 @@ pub fn in_range(number: u32, n: u32) -> bool {
     number >= 1 && number <= n
 }
 
-/// Number 7: a write to another's slot, or a read of one's own.
+/// Number 7: a write to another's slot. Any slot may be read.
 pub fn not_allowed(member: u32, slot: u32, op_type: u32) -> bool {
-    (op_type == WRITE && slot != member) || (op_type == READ && slot == member)
+    op_type == WRITE && slot != member
 }
 
 /// Number 3 on the first three words of a record in a table.
@@ -686,7 +686,8 @@ fn step_host_commit(entry: &mut Entry, record: &Record) -> u32 {
         return ABORTED;
     }
     entry.newest = record.clone();
-    if record.op_type == WRITE {
+    // Of the owner's read too: check 25 asks for the owner's count at the newest record.
+    if record.member == record.slot {
         entry.stored = record.clone();
     }
     entry.submit_member = 0;

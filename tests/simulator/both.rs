@@ -58,7 +58,7 @@ impl Both {
             fail("the simulator itself changed something at a refusal");
         }
         let tally = if self.walking { &mut self.walks } else { &mut self.cases };
-        tally.count(call, by_simulator, lent);
+        tally.count(call, by_simulator, &before, lent);
         by_simulator
     }
 

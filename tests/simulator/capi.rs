@@ -38,8 +38,36 @@ struct Tally {
     crashes: [u64; 18],
     halts: [u64; 28],
     returned: u64,
+    own_reads: [u64; 7], // delivers of a member's read of its own slot, by the phase after
     messages: u64,
     checks: [u64; 18],
+}
+
+impl Tally {
+    fn count(&mut self, call: &Call, answer: u32, words: usize) {
+        self.calls += 1;
+        self.words += words as u64;
+        let answers = match call {
+            Call::Open { .. } => &mut self.opens,
+            Call::Begin { .. } => &mut self.begins,
+            Call::Deliver { .. } => &mut self.delivers,
+            Call::Crash { .. } => &mut self.crashes,
+        };
+        answers[answer as usize] += 1;
+    }
+
+    /// A deliver that was answered 0.
+    fn count_delivered(&mut self, member: u32, before: &[u32], after: &[u32], returned: bool) {
+        let start = block_start(after[0], member);
+        let phase = after[start];
+        if phase == HALTED {
+            self.halts[after[start + 2] as usize] += 1;
+        }
+        if before[start + 3] == member && before[start + 4] == READ {
+            self.own_reads[phase as usize] += 1;
+        }
+        self.returned += returned as u64;
+    }
 }
 
 fn fail(what: &str) -> ! {
@@ -101,24 +129,10 @@ fn both(table: &mut Vec<u32>, call: &Call, tally: &mut Tally) -> u32 {
         fail(&format!("{}: the simulator itself changed words at a refusal", story()));
     }
 
-    tally.calls += 1;
-    tally.words += table.len() as u64;
-    let place = by_sim as usize;
-    match call {
-        Call::Open { .. } => tally.opens[place] += 1,
-        Call::Begin { .. } => tally.begins[place] += 1,
-        Call::Crash { .. } => tally.crashes[place] += 1,
-        Call::Deliver { member, .. } => {
-            tally.delivers[place] += 1;
-            if by_sim == 0 {
-                let start = block_start(table[0], *member);
-                if table[start] == HALTED {
-                    tally.halts[table[start + 2] as usize] += 1;
-                }
-                if out_sim[0] == 1 {
-                    tally.returned += 1;
-                }
-            }
+    tally.count(call, by_sim, table.len());
+    if let Call::Deliver { member, .. } = call {
+        if by_sim == 0 {
+            tally.count_delivered(*member, &before, table, out_sim[0] == 1);
         }
     }
     by_sim
@@ -134,7 +148,8 @@ fn useful_call(rng: &mut Rng, n: u32, table: &[u32], crash_once_in: u64) -> Call
     }
     if table[block_start(n, member)] == IDLE {
         let slot = if rng.once_in(2) { 1 } else { rng.between(1, n) };
-        return Call::Begin { member, slot, op_type: type_for(member, slot), value: random_sheet(rng).to_vec() };
+        let op_type = allowed_type(rng, member, slot);
+        return Call::Begin { member, slot, op_type, value: random_sheet(rng).to_vec() };
     }
     Call::Deliver { member, returned_words: 9 }
 }
@@ -190,7 +205,8 @@ fn any_table(rng: &mut Rng, n: u32) -> Vec<u32> {
     table
 }
 
-/// One member in phase 2 whose reply is nearly good.
+/// One member in phase 2 whose reply is nearly good. Every second time its
+/// submit is the slot's newest, so that its commit is accepted.
 fn near_table(rng: &mut Rng, n: u32) -> (Vec<u32>, u32) {
     let NearReply { member, mut block, newest, stored } = near_reply(rng, n);
     block.phase = REPLY_SENT;
@@ -198,6 +214,12 @@ fn near_table(rng: &mut Rng, n: u32) -> (Vec<u32>, u32) {
     block.second = stored;
     let mut table = new_table(n);
     put_block(&mut table, member, &block);
+    if rng.once_in(2) {
+        let mut entry = entry_of(&table, block.slot);
+        entry.submit_member = member;
+        entry.submit_count = block.own_counts[block.slot as usize - 1];
+        put_entry(&mut table, block.slot, &entry);
+    }
     (table, member)
 }
 
@@ -312,9 +334,10 @@ fn fixed_arguments(tally: &mut Tally) {
                                 let start = block_start(n, member);
                                 table[start..start + 5].copy_from_slice(&[phase, mark, halt, slot, op_type]);
                                 let begins = if slot == 0 { 1 } else { slot };
+                                let begun = allowed_type(&mut rng, member, begins);
                                 both(&mut table.clone(), &Call::Deliver { member, returned_words: 9 }, tally);
                                 both(&mut table.clone(), &Call::Crash { member }, tally);
-                                both(&mut table, &Call::Begin { member, slot: begins, op_type: type_for(member, begins), value: vec![3; 8] }, tally);
+                                both(&mut table, &Call::Begin { member, slot: begins, op_type: begun, value: vec![3; 8] }, tally);
                             }
                         }
                     }
@@ -334,7 +357,7 @@ fn fixed_words(tally: &mut Tally) {
                 for word in [0, 1, 2, 3, n + 1, 7, 21, 28, u32::MAX - 1, u32::MAX] {
                     for member in 1..=n {
                         let slot = member % n + 1;
-                        let op_type = type_for(member, slot);
+                        let op_type = allowed_type(&mut rng, member, slot);
                         let mut changed = table.clone();
                         changed[place] = word;
                         both(&mut changed.clone(), &Call::Begin { member, slot, op_type, value: vec![9; 8] }, tally);
@@ -482,6 +505,7 @@ fn main() {
     println!("deliver by answer {:?}", &tally.delivers[..12]);
     println!("crash by answer   {:?}", &tally.crashes[..12]);
     println!("halts 22 to 27    {:?}", &tally.halts[22..]);
+    println!("delivers of own reads by phase after {:?}", tally.own_reads);
     println!("messages {} by answer 0, 1, 12 to 15: {} {} {:?}", tally.messages, tally.checks[0], tally.checks[1], &tally.checks[12..16]);
     // The work must not be empty.
     let wanted: Vec<(&str, &[u64], Vec<usize>)> = vec![
@@ -490,6 +514,7 @@ fn main() {
         ("deliver", &tally.delivers, vec![0, 2, 3, 4, 10]),
         ("crash", &tally.crashes, vec![0, 2, 3, 4, 11]),
         ("halt", &tally.halts, vec![22, 23, 24, 25, 26, 27]),
+        ("own read to phase", &tally.own_reads, vec![0, 2, 3, 4, 5, 6]),
         ("message", &tally.checks, vec![0, 1, 12, 13, 14, 15]),
     ];
     for (name, counts, numbers) in wanted {

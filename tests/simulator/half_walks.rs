@@ -10,7 +10,7 @@ use crate::flat::*;
 use crate::message_cases::LONGEST;
 use crate::messages::Message;
 use crate::noise::noisy_fields;
-use crate::random::{random_sheet, type_for};
+use crate::random::{allowed_type, random_sheet};
 use crate::rng::Rng;
 
 const NEVER: u64 = 0;
@@ -75,7 +75,8 @@ impl Walk<'_> {
 
     fn begin(&mut self, member: u32) {
         let slot = self.rng.between(1, self.style.slots);
-        let call = Call::Begin { n: self.n, member, slot, op_type: type_for(member, slot) };
+        let op_type = allowed_type(&mut self.rng, member, slot);
+        let call = Call::Begin { n: self.n, member, slot, op_type };
         let sheet = random_sheet(&mut self.rng).to_vec();
         self.ask_member(&call, member, sheet);
     }

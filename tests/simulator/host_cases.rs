@@ -18,7 +18,7 @@ fn fitting_record(rng: &mut Rng, entries: &[u32], n: u32, slot: u32) -> Record {
     record.slot = slot;
     record.member = entry[0];
     record.count = entry[1];
-    record.op_type = type_for(record.member, slot);
+    record.op_type = allowed_type(rng, record.member, slot);
     record
 }
 
@@ -64,8 +64,28 @@ fn fixed_words(both: &mut Both) {
                 changed[place] = *word;
                 let record = fitting_record(&mut rng, &entries, n, slot);
                 both.words(&Call::Commit { n }, &mut changed.clone(), noisy_record(&mut rng, &record, n));
-                let call = Call::Submit { n, member, slot, op_type: type_for(member, slot), count: *word };
+                let call = Call::Submit { n, member, slot, op_type: record.op_type, count: *word };
                 both.words(&call, &mut changed, vec![]);
+            }
+        }
+    }
+}
+
+/// Every member reads and writes every slot, one after the other on the same
+/// entries: each submit is handed out what the commits before it left.
+fn fixed_stored(both: &mut Both) {
+    let mut rng = Rng::new(53);
+    for n in 1..=12 {
+        let mut entries = opening_entries(n);
+        for slot in 1..=n {
+            for member in (1..=n).chain([slot]) {
+                for op_type in [READ, WRITE, READ] {
+                    let call = Call::Submit { n, member, slot, op_type, count: rng.word() };
+                    both.words(&call, &mut entries, vec![]);
+                    let mut record = fitting_record(&mut rng, &entries, n, slot);
+                    (record.member, record.op_type) = (member, op_type);
+                    both.words(&Call::Commit { n }, &mut entries, noisy_record(&mut rng, &record, n));
+                }
             }
         }
     }
@@ -74,6 +94,7 @@ fn fixed_words(both: &mut Both) {
 pub fn fixed(both: &mut Both) {
     fixed_arguments(both);
     fixed_words(both);
+    fixed_stored(both);
 }
 
 // ---------------------------------------------------------------- random
@@ -83,7 +104,7 @@ fn some_call(both: &mut Both, rng: &mut Rng, entries: &mut Vec<u32>, n: u32) {
     let slot = rng.between(1, n);
     if rng.once_in(2) {
         let member = rng.between(1, n);
-        let mut call = Call::Submit { n, member, slot, op_type: type_for(member, slot), count: rng.between(0, 2) };
+        let mut call = Call::Submit { n, member, slot, op_type: allowed_type(rng, member, slot), count: rng.between(0, 2) };
         if rng.once_in(5) {
             call = Call::Submit { n, member: any_number(rng, n), slot: any_number(rng, n), op_type: any_type(rng), count: rng.word() };
         }
@@ -99,7 +120,7 @@ fn some_call(both: &mut Both, rng: &mut Rng, entries: &mut Vec<u32>, n: u32) {
         4 => record.count = rng.between(0, 2),
         5 => {
             record.member = rng.between(1, n);
-            record.op_type = type_for(record.member, slot);
+            record.op_type = allowed_type(rng, record.member, slot);
         }
         _ => {}
     }

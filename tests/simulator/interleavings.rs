@@ -1,8 +1,9 @@
-// Drives the C interface along all 756,756 interleavings of three operations
-// of five steps each, and along all of them with one crash, of each member at
-// each of the 16 places: 36,324,288 more. Once all on one slot, once on a mix
-// of slots. Compares each call with the book of a run: answer, phases, returned.
-// Ends with 1 where any differs, or where not all were walked.
+// Drives the C interface along all interleavings of three operations of five
+// steps each, and along all of them with one crash, of each member at each of
+// the 16 places. By three members there are 756,756, and 36,324,288 with a
+// crash; where two of the operations are one member's, one after the other,
+// 3,003 and 144,144. Compares each call with the book of a run: answer, phases,
+// returned. Ends with 1 where any differs, or where not all were walked.
 // Usage: interleavings [without-crashes]
 //
 // Interleavings that start alike share the work of their start: the table and
@@ -18,15 +19,34 @@ use std::time::Instant;
 
 const N: u32 = 3;
 const STEPS: usize = 5;
-const ALL: u64 = 756_756;
-const ALL_WITH_CRASH: u64 = 48 * ALL; // 16 places, 3 members
+const OF_THREE: u64 = 756_756; // 15! / (5! 5! 5!)
+const OF_TWO: u64 = 3_003; // 15! / (10! 5!)
+const CRASHES: u64 = 48; // 16 places, 3 members
 const FORKS: usize = 17; // no walk forks more often
 
-/// What each of the three members does: slot and type.
+/// Three operations: member, slot and type. Those of one member follow each
+/// other as they stand here.
 struct Plan {
     name: &'static str,
-    slots: [u32; 3],
-    types: [u32; 3],
+    operations: [(u32, u32, u32); 3],
+    all: u64, // how many interleavings there are
+    crashes: bool,
+}
+
+impl Plan {
+    fn member(&self, op: usize) -> u32 {
+        self.operations[op].0
+    }
+
+    fn slot(&self, op: usize) -> u32 {
+        self.operations[op].1
+    }
+
+    /// Has it a step left, and has its member no operation before it under way?
+    fn may_step(&self, done: &[usize; 3], op: usize) -> bool {
+        let waits = (0..op).any(|before| self.member(before) == self.member(op) && done[before] < STEPS);
+        done[op] < STEPS && !waits
+    }
 }
 
 fn sheet_of(member: u32, last: u32) -> Sheet {
@@ -37,11 +57,11 @@ fn sheet_of(member: u32, last: u32) -> Sheet {
 struct State {
     table: Vec<u32>,
     book: Book,
-    done: [usize; 3],      // steps done by each member
+    done: [usize; 3],      // steps done of each operation
     submit_at: [usize; 3], // place of the submit and of the commit, 0 for none yet
     commit_at: [usize; 3],
     place: usize,          // calls made so far, the crash not counted
-    crashed: Option<usize>,
+    crashed: Option<u32>,
 }
 
 impl State {
@@ -55,34 +75,34 @@ impl State {
         self.crashed = other.crashed;
     }
 
-    /// The member's next step, on both.
-    fn step(&mut self, plan: &Plan, m: usize) {
-        let member = m as u32 + 1;
-        let call = if self.done[m] == 0 {
-            Call::Begin { member, slot: plan.slots[m], op_type: plan.types[m], sheet: sheet_of(member, 200 + member) }
+    /// The operation's next step, on both.
+    fn step(&mut self, plan: &Plan, op: usize) {
+        let (member, slot, op_type) = plan.operations[op];
+        let call = if self.done[op] == 0 {
+            Call::Begin { member, slot, op_type, sheet: sheet_of(member, 200 + op as u32) }
         } else {
             Call::Deliver { member }
         };
         let answer = both(&mut self.table, &mut self.book, &call);
         self.place += 1;
-        self.done[m] += 1;
+        self.done[op] += 1;
         if answer != 0 {
-            if self.crashed != Some(m) {
+            if self.crashed != Some(member) {
                 fail(&format!("{:?} of a member that has not crashed is answered {}", call, answer));
             }
             return;
         }
-        if self.done[m] == 2 {
-            self.submit_at[m] = self.place;
+        if self.done[op] == 2 {
+            self.submit_at[op] = self.place;
         }
-        if self.done[m] == 4 {
-            self.commit_at[m] = self.place;
+        if self.done[op] == 4 {
+            self.commit_at[op] = self.place;
         }
     }
 
-    fn crash(&mut self, m: usize) {
-        both(&mut self.table, &mut self.book, &Call::Crash { member: m as u32 + 1 });
-        self.crashed = Some(m);
+    fn crash(&mut self, member: u32) {
+        both(&mut self.table, &mut self.book, &Call::Crash { member });
+        self.crashed = Some(member);
     }
 }
 
@@ -182,27 +202,27 @@ impl Walk<'_> {
     /// All that follows the state of this fork.
     fn walk(&mut self, fork: usize) {
         if self.crashes && self.states[fork].crashed.is_none() {
-            for m in 0..3 {
+            for member in 1..=N {
                 self.copy_on(fork);
-                self.states[fork + 1].crash(m);
+                self.states[fork + 1].crash(member);
                 self.with.calls += 1;
                 self.walk(fork + 1);
             }
         }
-        let done = self.states[fork].done;
-        let last = match (0..3).rev().find(|m| done[*m] < STEPS) {
-            Some(m) => m,
+        let (plan, done) = (self.plan, self.states[fork].done);
+        let last = match (0..3).rev().find(|op| plan.may_step(&done, *op)) {
+            Some(op) => op,
             None => return self.leaf(fork),
         };
-        for m in (0..last).filter(|m| done[*m] < STEPS) {
+        for op in (0..last).filter(|op| plan.may_step(&done, *op)) {
             self.copy_on(fork);
-            self.step(fork + 1, m);
+            self.step(fork + 1, op);
         }
         self.step(fork, last);
     }
 
-    fn step(&mut self, fork: usize, m: usize) {
-        self.states[fork].step(self.plan, m);
+    fn step(&mut self, fork: usize, op: usize) {
+        self.states[fork].step(self.plan, op);
         self.count(fork).calls += 1;
         self.walk(fork);
     }
@@ -213,11 +233,11 @@ impl Walk<'_> {
         let mut aborted = 0;
         let mut accepted = 0;
         let mut unfinished = 0;
-        for m in 0..3 {
-            let committed = state.commit_at[m];
+        for op in 0..3 {
+            let committed = state.commit_at[op];
             let overtaken = (0..3).any(|other| {
-                let same = other != m && self.plan.slots[other] == self.plan.slots[m];
-                same && state.submit_at[other] > state.submit_at[m] && state.submit_at[other] < committed
+                let same = other != op && self.plan.slot(other) == self.plan.slot(op);
+                same && state.submit_at[other] > state.submit_at[op] && state.submit_at[other] < committed
             });
             if committed == 0 {
                 unfinished += 1;
@@ -252,11 +272,29 @@ fn walk_all(plan: &Plan, crashes: bool) {
     let began = Instant::now();
     let mut walk = Walk { plan, crashes, states: vec![start(); FORKS], without: Count::default(), with: Count::default() };
     walk.walk(0);
-    report(plan.name, &walk.without, ALL);
+    report(plan.name, &walk.without, plan.all);
     if crashes {
-        report(&format!("{} with one crash", plan.name), &walk.with, ALL_WITH_CRASH);
+        report(&format!("{} with one crash", plan.name), &walk.with, CRASHES * plan.all);
     }
     println!("{}: {:.1} s", plan.name, began.elapsed().as_secs_f64());
+}
+
+/// On one slot every mix that has an own read in it, but for those of one
+/// member alone. Crashes cost most of the time: two of those by three members go without.
+fn plans() -> Vec<Plan> {
+    let (r, w) = (board::READ, board::WRITE);
+    let plan = |name, operations, all, crashes| Plan { name, operations, all, crashes };
+    vec![
+        plan("one slot", [(1, 3, r), (2, 3, r), (3, 3, w)], OF_THREE, true),
+        plan("mixed slots", [(1, 1, w), (2, 1, r), (3, 2, r)], OF_THREE, true),
+        plan("own read on one slot", [(1, 3, r), (2, 3, r), (3, 3, r)], OF_THREE, true),
+        plan("own read, mixed slots", [(1, 1, r), (2, 1, r), (3, 2, r)], OF_THREE, false),
+        plan("own reads, another's slot", [(1, 1, r), (2, 2, r), (3, 1, r)], OF_THREE, false),
+        plan("own write, own read", [(1, 1, w), (1, 1, r), (2, 1, r)], OF_TWO, true),
+        plan("own read, own write", [(1, 1, r), (1, 1, w), (2, 1, r)], OF_TWO, true),
+        plan("own read twice", [(1, 1, r), (1, 1, r), (2, 1, r)], OF_TWO, true),
+        plan("own read, a neighbour's twice", [(1, 1, r), (2, 1, r), (2, 1, r)], OF_TWO, true),
+    ]
 }
 
 fn main() {
@@ -269,15 +307,11 @@ fn main() {
             std::process::exit(2);
         }
     };
-    let (r, w) = (board::READ, board::WRITE);
-    let plans = [
-        Plan { name: "one slot", slots: [3, 3, 3], types: [r, r, w] },
-        Plan { name: "mixed slots", slots: [1, 1, 2], types: [w, r, r] },
-    ];
-    // Both at once.
+    let plans = plans();
+    // All at once.
     std::thread::scope(|threads| {
         for plan in &plans {
-            threads.spawn(move || walk_all(plan, crashes));
+            threads.spawn(move || walk_all(plan, crashes && plan.crashes));
         }
     });
     println!("all agreed");

@@ -10,14 +10,15 @@ const SOME_N: [u32; 18] = [0, 1, 2, 3, 4, 5, 6, 7, 8, 9, 10, 11, 12, 13, 255, 25
 
 fn any_call(rng: &mut Rng, place: u64, n: u32) -> Call {
     let (member, slot) = (any_number(rng, n), any_number(rng, n));
+    let op_type = allowed_type(rng, member, slot);
     match place {
         0 => Call::Read { n },
         1 => Call::Write { n },
-        2 => Call::Begin { n, member, slot, op_type: type_for(member, slot) },
+        2 => Call::Begin { n, member, slot, op_type },
         3 => Call::Reply { n, member, seals: rng.between(0, 4) },
         4 => Call::Outcome { n, member, outcome: rng.between(0, 3) },
         5 => Call::Crash { n, member },
-        6 => Call::Submit { n, member, slot, op_type: type_for(member, slot), count: rng.word() },
+        6 => Call::Submit { n, member, slot, op_type, count: rng.word() },
         _ => Call::Commit { n },
     }
 }

@@ -22,8 +22,9 @@ fn every_call(both: &mut Both, rng: &mut Rng, block: &[u32], n: u32, member: u32
     let opening = opening_record(n, block.get(3).copied().unwrap_or(1).clamp(1, n));
     let records = noisy_records(rng, &opening, &opening, n);
     let sheet = random_sheet(rng).to_vec();
-    both.words(&Call::Begin { n, member, slot: member, op_type: WRITE }, &mut block.to_vec(), sheet.clone());
-    both.words(&Call::Begin { n, member, slot: other, op_type: READ }, &mut block.to_vec(), sheet);
+    for (slot, op_type) in [(member, WRITE), (member, READ), (other, READ)] {
+        both.words(&Call::Begin { n, member, slot, op_type }, &mut block.to_vec(), sheet.clone());
+    }
     both.words(&Call::Reply { n, member, seals: 3 }, &mut block.to_vec(), records);
     both.words(&Call::Outcome { n, member, outcome: ACCEPTED }, &mut block.to_vec(), vec![]);
     both.words(&Call::Outcome { n, member, outcome: ABORTED }, &mut block.to_vec(), vec![]);
@@ -60,22 +61,29 @@ fn fixed_heads(both: &mut Both) {
     }
 }
 
-/// Each single word of a block set to boundary values.
+/// Each single word of a block set to each of these.
+fn every_word(both: &mut Both, rng: &mut Rng, block: &[u32], n: u32, member: u32, words: &[u32]) {
+    for place in 0..block.len() {
+        for word in words {
+            let mut changed = block.to_vec();
+            changed[place] = *word;
+            every_call(both, rng, &changed, n, member);
+        }
+    }
+}
+
+/// A read of another's slot, one of the own and a write, each idle, waiting
+/// for its reply and for its outcome, with boundary values.
 fn fixed_words(both: &mut Both) {
     let mut rng = Rng::new(42);
     for (n, words) in [(1, 10), (2, 10), (3, 10), (12, 2)] {
         let edges = [u32::MAX, n + 1, 0, 1, 2, 3, 7, 21, 28, u32::MAX - 1];
         for phase in [IDLE, SUBMIT_SENT, COMMIT_SENT] {
             let member = rng.between(1, n);
-            let mut block = waiting_block(n, member, rng.between(1, n));
-            block.phase = phase;
-            let block = block_to_words(&block);
-            for place in 0..block.len() {
-                for word in &edges[..words] {
-                    let mut changed = block.clone();
-                    changed[place] = *word;
-                    every_call(both, &mut rng, &changed, n, member);
-                }
+            for (slot, op_type) in [(member % n + 1, READ), (member, READ), (member, WRITE)] {
+                let mut block = waiting_block(n, slot, op_type);
+                block.phase = phase;
+                every_word(both, &mut rng, &block_to_words(&block), n, member, &edges[..words]);
             }
         }
     }
@@ -113,7 +121,7 @@ fn fixed_fields(both: &mut Both) {
             for mark in 0..=1 {
                 let member = rng.between(1, n);
                 let slot = rng.between(1, n);
-                let mut block = waiting_block(n, member, slot);
+                let mut block = waiting_block(n, slot, allowed_type(&mut rng, member, slot));
                 block.phase = phase;
                 block.crash_mark = mark;
                 let block = block_to_words(&block);
@@ -223,7 +231,7 @@ fn near_round(both: &mut Both, rng: &mut Rng, n: u32) {
     }
     both.words(&Call::Outcome { n, member, outcome: rng.between(1, 2) }, &mut words, vec![]);
     let slot = rng.between(1, n);
-    let call = Call::Begin { n, member, slot, op_type: type_for(member, slot) };
+    let call = Call::Begin { n, member, slot, op_type: allowed_type(rng, member, slot) };
     both.words(&call, &mut words, random_sheet(rng).to_vec());
 }
 

@@ -44,10 +44,11 @@ pub fn any_type(rng: &mut Rng) -> u32 {
     rng.between(1, 2)
 }
 
-/// The type with which number 7 lets a member to a slot.
-pub fn type_for(member: u32, slot: u32) -> u32 {
+/// A type with which number 7 lets a member to a slot: the owner reads as
+/// often as it writes.
+pub fn allowed_type(rng: &mut Rng, member: u32, slot: u32) -> u32 {
     if slot == member {
-        WRITE
+        rng.between(READ, WRITE)
     } else {
         READ
     }
@@ -77,7 +78,7 @@ pub fn any_block(rng: &mut Rng, n: u32, member: u32) -> Vec<u32> {
     block[1] = rng.once_in(5) as u32;
     block[2] = *rng.pick(&[0, 0, 21, 24, 27]);
     block[3] = slot;
-    block[4] = type_for(member, slot);
+    block[4] = allowed_type(rng, member, slot);
     if block[0] == IDLE && rng.once_in(2) {
         block[3] = 0;
         block[4] = 0;
@@ -117,7 +118,7 @@ pub fn near_reply(rng: &mut Rng, n: u32) -> NearReply {
     let base = *rng.pick(&[0u32, 5, 0xFFFC, 0x7FFF_FFFC, u32::MAX - 9]);
     let mut block = block_from_words(&vec![0; block_words(n)], n);
     block.slot = slot;
-    block.op_type = type_for(member, slot);
+    block.op_type = allowed_type(rng, member, slot);
     let mut newest = opening_record(n, slot);
     newest.member = rng.between(0, n);
     for k in 0..n as usize {

@@ -131,18 +131,11 @@ impl Book {
         if !self.has(slot) {
             return 5;
         }
-        match op_type {
-            READ => {
-                if member == slot {
-                    return 7;
-                }
-            }
-            WRITE => {
-                if member != slot {
-                    return 7;
-                }
-            }
-            _ => return 6,
+        if op_type != READ && op_type != WRITE {
+            return 6;
+        }
+        if op_type == WRITE && member != slot {
+            return 7;
         }
         let m = &mut self.members[member as usize - 1];
         if m.running.is_some() || m.crashed {

@@ -2,15 +2,15 @@
 // that each make one check fail at one place.
 
 use crate::board::*;
-use crate::random::type_for;
+use crate::random::allowed_type;
 use crate::rng::Rng;
 
 /// A block that waits for the first reply to its first operation.
-pub fn waiting_block(n: u32, member: u32, slot: u32) -> Block {
+pub fn waiting_block(n: u32, slot: u32, op_type: u32) -> Block {
     let mut block = block_from_words(&vec![0; block_words(n)], n);
     block.phase = SUBMIT_SENT;
     block.slot = slot;
-    block.op_type = type_for(member, slot);
+    block.op_type = op_type;
     block.own_counts[slot as usize - 1] = 1;
     block
 }
@@ -28,7 +28,7 @@ pub struct Reply {
 pub fn passing_reply(rng: &mut Rng, n: u32, member: u32, slot: u32) -> Reply {
     let (m, r) = (member as usize - 1, slot as usize - 1);
     let count = *rng.pick(&[1, 0xFFFF, 0x7FFF_FFFF, u32::MAX - 1]);
-    let mut block = waiting_block(n, member, slot);
+    let mut block = waiting_block(n, slot, allowed_type(rng, member, slot));
     let mut newest = opening_record(n, slot);
     let mut stored = opening_record(n, slot);
     for k in 0..n as usize {

@@ -1,7 +1,7 @@
 // How often each answer and each halt of the calls on the halves came up, and
 // with how many pairs.
 
-use crate::board::{ABORTED, ACCEPTED, HALTED};
+use crate::board::{ABORTED, ACCEPTED, HALTED, READ};
 use crate::calls::{Call, Lent, NAMES};
 use std::collections::BTreeMap;
 
@@ -18,6 +18,9 @@ const ANYWHERE: [&[usize]; 8] = [
     &[0, 1, 2, 3, 4, 5, 6, 7],
 ];
 const IN_WALKS: [&[usize]; 8] = [&[0, 12, 13, 14, 15], &[0], &[0, 8, 9], &[0, 10, 15], &[0, 10], &[0, 11], &[0], &[0]];
+
+/// The calls that belong to an operation: begin, reply, outcome, submit, commit.
+const OF_OPERATIONS: [usize; 5] = [2, 3, 4, 6, 7];
 
 /// How a reply that was taken ended: its halt, or 0 where it passed.
 const ENDS: [u32; 8] = [0, 21, 22, 23, 24, 25, 26, 27];
@@ -43,16 +46,29 @@ pub struct Tally {
     replies: BTreeMap<(u32, u32, u32), u64>, // by end, n and pairs
     outcomes: [u64; 3],
     values: u64,
+    own_reads: [u64; 8], // answered 0, as in NAMES
+}
+
+/// Is it a call of a member's read of its own slot? Asked where it is answered 0.
+fn of_own_read(call: &Call, before: &Lent) -> bool {
+    let (member, slot, op_type) = match *call {
+        Call::Begin { member, slot, op_type, .. } | Call::Submit { member, slot, op_type, .. } => (member, slot, op_type),
+        Call::Reply { member, .. } | Call::Outcome { member, .. } => (member, before.words[3], before.words[4]),
+        Call::Commit { .. } => (before.given[0], before.given[1], before.given[2]),
+        _ => return false,
+    };
+    slot == member && op_type == READ
 }
 
 impl Tally {
-    pub fn count(&mut self, call: &Call, answer: u32, after: &Lent) {
+    pub fn count(&mut self, call: &Call, answer: u32, before: &Lent, after: &Lent) {
         self.calls += 1;
         self.compared += (after.words.len() + after.bytes.len() + after.given.len() + after.results.len()) as u64;
         self.answers[call.place()][answer as usize] += 1;
         if answer != 0 {
             return;
         }
+        self.own_reads[call.place()] += of_own_read(call, before) as u64;
         match call {
             Call::Reply { n, .. } => {
                 let end = if after.words[0] == HALTED { after.words[2] } else { 0 };
@@ -87,6 +103,18 @@ impl Tally {
         missing
     }
 
+    /// Prints how often each call of own reads was done; gives which never was.
+    fn report_own_reads(&self) -> Vec<String> {
+        let mut missing = Vec::new();
+        for place in OF_OPERATIONS {
+            println!("own reads, {:7} {:6} times", NAMES[place], self.own_reads[place]);
+            if self.own_reads[place] == 0 {
+                missing.push(format!("{} of an own read", NAMES[place]));
+            }
+        }
+        missing
+    }
+
     /// Where not every number of pairs came up that can.
     fn missing_pairs(&self) -> Vec<String> {
         let mut missing = Vec::new();
@@ -110,6 +138,7 @@ impl Tally {
         let (accepted, aborted) = (self.outcomes[ACCEPTED as usize], self.outcomes[ABORTED as usize]);
         println!("commits accepted {} aborted {} values returned {}", accepted, aborted, self.values);
         let mut missing = self.report_replies();
+        missing.extend(self.report_own_reads());
         for (place, numbers) in can_occur.iter().enumerate() {
             let never = numbers.iter().filter(|number| self.answers[place][**number] == 0);
             missing.extend(never.map(|number| format!("{} {}", NAMES[place], number)));

@@ -55,6 +55,7 @@ opened-inv n = record {
   newest = λ k j. ap (λ m. m j) (opening-matrix n k);
   slots = opening-slot n;
   counts = λ k i. ap (λ m. m k i) (opening-matrix n k);
+  shows = λ i. refl;
   members = λ i. at-rest (λ k a. a ≡ zeroRow) n i idle refIdle _ _ refl (λ r. refl) (λ r. le-refl 0) (λ j. refl);
 }
 

@@ -37,12 +37,16 @@ countOn m k = cond (eqb (m .phase) 4 && eqb (m .slot) k) (m .own k) (m .accepted
 abbrev pub marked : Entry → ℕ → ℕ → Bool
 marked e i count = eqb (e .submitMember) i && eqb (e .submitCount) count
 
--- a running operation of member i
-pub record Running (n i slot operation : ℕ) : Type 0 where
+-- the value that a member would show of its own slot: its last, but while its write is accepted and not completed the pending one
+abbrev pub shown : Member → Value
+shown m = cond (eqb (m .phase) 4 && eqb (m .operation) write) (m .pending) (m .last)
+
+-- a running operation of member i: a write is to its own slot, and a read carries its last value
+pub record Running (n i slot operation : ℕ) (pending last : Value) : Type 0 where
   pub member : inside n i ≡ true
   pub slotIn : inside n slot ≡ true
   pub writes : operation ≡ write → slot ≡ i
-  pub reads : (operation ≡ write → ⊥) → slot ≡ i → ⊥
+  pub reads : (operation ≡ write → ⊥) → pending ≡ last
 
 -- phase 2, reply sent: overtaken or not, the reply passes the checks; not overtaken, it is what the host has now
 pub record Replied (P : Tops) (i slot : ℕ) (accepted : ℕ → ℕ) (known : Matrix) (first second : Rec) : Type 0 where
@@ -83,7 +87,7 @@ pub record MemberInv (P : Tops) (n i : ℕ) (m : Member) (f : RefMember) (e : En
   pub fine : m .phase ≤ 5
   pub order : (r : ℕ) → m .accepted r ≤ m .own r
   pub knownTops : (j : ℕ) → P j (m .known j)
-  pub running : 1 ≤ m .phase → Running n i (m .slot) (m .operation)
+  pub running : 1 ≤ m .phase → Running n i (m .slot) (m .operation) (m .pending) (m .last)
   pub fresh : m .phase ≡ 1 → f .overtaken ≡ false
   pub mark : 2 ≤ m .phase → m .phase ≤ 3 → f .overtaken ≡ not (marked e i (m .own (m .slot)))
   pub replied : m .phase ≡ 2 → Replied P i (m .slot) (m .accepted) (m .known) (m .first) (m .second)
@@ -100,4 +104,6 @@ pub record Inv (n : ℕ) (b : Board) (ref : Reference) : Type 1 where
   pub newest : (k j : ℕ) → P j (b .host k .newest .matrix j)
   pub slots : (k : ℕ) → SlotInv n k (b .host k) (b .stored k) (ref .values k)
   pub counts : (k i : ℕ) → b .host k .newest .matrix k i ≡ countOn (b .members i) k
+  -- what a member would show of its slot is the reference's value there
+  pub shows : (i : ℕ) → shown (b .members i) ≡ ref .values i
   pub members : (i : ℕ) → MemberInv P n i (b .members i) (ref .members i) (b .host (b .members i .slot)) (b .stored (b .members i .slot))

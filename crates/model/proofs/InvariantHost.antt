@@ -19,7 +19,7 @@ use Rattle.model.specs.Reference.{Operation, RefMember, Reference, chang
 use Rattle.model.specs.Reference.{refAccepted, operationOf, refAccept}
 use Rattle.model.proofs.Order.{_≼_, Ordered, up, down, ≼-refl, ≼-trans}
 use Rattle.model.proofs.InvariantMember.{stepped}
-use Rattle.model.proofs.Invariant.{Tops, Grown, was, isNew, SlotInv, countOn, marked, Running, Extends, MemberInv, Inv}
+use Rattle.model.proofs.Invariant.{Tops, Grown, was, isNew, SlotInv, countOn, shown, marked, Running, Extends, MemberInv, Inv}
 
 -- Another member while a slot's entry changes: only whether its own operation is overtaken may have changed. `over` is what the
 -- reference says of that now.
@@ -158,6 +158,8 @@ module _ {n : ℕ} {b : Board} {ref : Reference} (inv : Inv n b ref) (i : ℕ) (
     };
     counts = λ k j. rw (newest-kept k) (put-all (λ j m. b .host k .newest .matrix k j ≡ countOn m k) (b .members) i
         (answered m₁ (b .host r₁ .newest) (b .stored r₁)) (inv .counts k i ∙ rw e refl) (λ j d. inv .counts k j) j);
+    shows = put-all (λ j m. shown m ≡ ref .values j) (b .members) i (answered m₁ (b .host r₁ .newest) (b .stored r₁))
+        (rw e at (inv .shows i)) (λ j d. inv .shows j);
     members = put-both
         (λ k m f. MemberInv (inv .P) n k m f (put (b .host) r₁ entry₁ (m .slot)) (b .stored (m .slot)))
         (b .members)
@@ -179,7 +181,7 @@ module _ {n : ℕ} {b : Board} {ref : Reference} (inv : Inv n b ref) (i : ℕ) (
   old₃ : MemberInv (inv .P) n i (b .members i) (ref .members i) (b .host (b .members i .slot)) (b .stored (b .members i .slot))
   old₃ = inv .members i
 
-  run₃ : Running n i (b .members i .slot) (b .members i .operation)
+  run₃ : Running n i (b .members i .slot) (b .members i .operation) (b .members i .pending) (b .members i .last)
   run₃ = old₃ .running (omega arith)
 
   abbrev sent : Rec
@@ -282,24 +284,28 @@ module _ {n : ℕ} {b : Board} {ref : Reference} (inv : Inv n b ref) (i : ℕ) (
       rw (put-off (b .host) r₃ entry₃ (m .slot) off, put-off (b .stored) r₃ s (m .slot) off)
       (bystander {e = b .host (m .slot)} (f .overtaken) (λ j a q. was q) old (old .fresh) (old .mark) (λ x y o. (o, refl, refl))))
 
-  -- the slot's records and value, after a write and after a read
-  slot-written : m₃ .operation ≡ write → SlotInv n r₃ entry₃ sent (ref .members i .value)
+  -- the value that it showed in phase 3 was its last
+  last-shown : m₃ .last ≡ ref .values i
+  last-shown = rw e at (inv .shows i)
+
+  -- The slot's records and value: after an operation of the owner, which carries a value v, and after another's.
+  slot-owned : i ≡ r₃ → (v : Value) → m₃ .pending ≡ v → SlotInv n r₃ entry₃ sent v
   unfolding sentRecord
-  slot-written w = record {
-    storedMember = λ p. sym (run₃ .writes w);
+  slot-owned own v carries = record {
+    storedMember = λ p. own;
     storedBelow = λ j. ≼-refl (m₃ .first .matrix j);
     storedSame = refl;
-    storedValue = old₃ .committed e .ownValue ∙ old₃ .value w;
+    storedValue = old₃ .committed e .ownValue ∙ carries;
   }
 
-  slot-read : (m₃ .operation ≡ write → ⊥) → SlotInv n r₃ entry₃ (b .stored r₃) (ref .values r₃)
+  slot-others : (i ≡ r₃ → ⊥) → SlotInv n r₃ entry₃ (b .stored r₃) (ref .values r₃)
   unfolding sentRecord
-  slot-read w =
+  slot-others other =
       let s = inv .slots r₃ in
       record {
         storedMember = s .storedMember;
         storedBelow = λ j. ≼-trans (s .storedBelow j) (extension .above j);
-        storedSame = s .storedSame ∙ sym (put-off (b .host r₃ .newest .matrix r₃) i (m₃ .own r₃) r₃ (run₃ .reads w))
+        storedSame = s .storedSame ∙ sym (put-off (b .host r₃ .newest .matrix r₃) i (m₃ .own r₃) r₃ (λ d. other (sym d)))
             ∙ sym (ap (λ x. x r₃) (extension .row));
         storedValue = s .storedValue;
       }
@@ -315,19 +321,36 @@ module _ {n : ℕ} {b : Board} {ref : Reference} (inv : Inv n b ref) (i : ℕ) (
       (λ p. let d : k ≡ r₃ = eqb-true k r₃ p in rw (d, put-at (b .host) r₃ entry₃, put-at (b .stored) r₃ s, put-at (ref .values) r₃ v) h)
       (λ p. slot-off s v k (eqb-false k r₃ p))
 
+  -- what the members show then: the writer its pending value, and everybody else, the reader too, what it showed
+  shows-written : (written : eqb (m₃ .operation) write ≡ true) (r : ℕ) → r ≡ i
+      → (k : ℕ) → shown (put (b .members) i (judged m₃ true) k) ≡ put (ref .values) r (ref .members i .value) k
+  unfolding judged
+  shows-written written r own = rw own (put-both (λ k m v. shown m ≡ v) (b .members) (ref .values) i (judged m₃ true) (ref .members i .value)
+      (rw written (old₃ .value (eqb-true (m₃ .operation) write written))) (λ k d. inv .shows k))
+
+  shows-read : eqb (m₃ .operation) write ≡ false → (k : ℕ) → shown (put (b .members) i (judged m₃ true) k) ≡ ref .values k
+  unfolding judged
+  shows-read reads = put-all (λ k m. shown m ≡ ref .values k) (b .members) i (judged m₃ true) (rw reads last-shown) (λ k d. inv .shows k)
+
+  -- the board then, where the slot's stored record is s
+  abbrev left₃ : Rec → Board
+  left₃ s = record { members = put (b .members) i (judged m₃ true); host = put (b .host) r₃ entry₃; stored = put (b .stored) r₃ s }
+
   -- all of it, for whatever record the slot then has, and whatever values the reference
   accepted-keeps : (s : Rec) (values : ℕ → Value) (h : List Operation)
       → ((k : ℕ) → SlotInv n k (put (b .host) r₃ entry₃ k) (put (b .stored) r₃ s k) (values k))
-      → Inv n (record { members = put (b .members) i (judged m₃ true); host = put (b .host) r₃ entry₃; stored = put (b .stored) r₃ s })
+      → ((k : ℕ) → shown (put (b .members) i (judged m₃ true) k) ≡ values k)
+      → Inv n (left₃ s)
       (record { values = values; members = put (ref .members) i (refAccepted (ref .members i) (ref .values r₃)); history = h })
   unfolding judged
-  accepted-keeps s values h slots = record {
+  accepted-keeps s values h slots shows = record {
     P = Q₃;
     chain = new-chain;
     top = new-top;
     newest = new-newest;
     slots = slots;
     counts = new-counts;
+    shows = shows;
     members = put-both
         (λ k m f. MemberInv Q₃ n k m f (put (b .host) r₃ entry₃ (m .slot)) (put (b .stored) r₃ s (m .slot)))
         (b .members) (ref .members) i (judged m₃ true) (refAccepted (ref .members i) (ref .values r₃))
@@ -351,14 +374,31 @@ module _ {n : ℕ} {b : Board} {ref : Reference} (inv : Inv n b ref) (i : ℕ) (
         history = operationOf i (ref .members i) ∷ ref .history;
       }
 
+  abbrev history₃ : List Operation
+  history₃ = operationOf i (ref .members i) ∷ ref .history
+
+  -- a write, which is to its own slot and stored
+  write-keeps : eqb (m₃ .operation) write ≡ true → Inv n (left₃ sent) (refAccept ref i)
+  write-keeps p =
+      let w : m₃ .operation ≡ write = eqb-true (m₃ .operation) write p in
+      rw (ref-accept true p) (accepted-keeps sent (put (ref .values) r₃ (ref .members i .value)) history₃
+      (new-slots sent (ref .members i .value) (slot-owned (sym (run₃ .writes w)) (ref .members i .value) (old₃ .value w)))
+      (shows-written p r₃ (run₃ .writes w)))
+
+  -- a read, which leaves the slot's value, whether or not it is stored
+  read-keeps : (s : Rec) → SlotInv n r₃ entry₃ s (ref .values r₃) → eqb (m₃ .operation) write ≡ false → Inv n (left₃ s) (refAccept ref i)
+  read-keeps s slot p = rw (ref-accept false p) (accepted-keeps s (ref .values) history₃
+      (λ k. rw (put-same (ref .values) r₃) at (new-slots s (ref .values r₃) slot k))
+      (shows-read p))
+
+  -- an owner's read carries the value that its slot has
+  read-carries : eqb (m₃ .operation) write ≡ false → i ≡ r₃ → m₃ .pending ≡ ref .values r₃
+  read-carries p own = run₃ .reads (eqb-false (m₃ .operation) write p) ∙ last-shown ∙ ap (ref .values) own
+
   pub accept-keeps : Inv n (commitTaken b i) (refAccept ref i)
   unfolding commitTaken wins entryAfter storedAfter becomesStored sentRecord
   accept-keeps = rw won (on (eqb (m₃ .operation) write)
-      (λ p. rw (p, ref-accept true p) (accepted-keeps sent (put (ref .values) r₃ (ref .members i .value)) history
-      (new-slots sent (ref .members i .value) (slot-written (eqb-true (m₃ .operation) write p)))))
-      (λ p. rw (p, ref-accept false p) (accepted-keeps (b .stored r₃) (ref .values) history
-      (λ k. rw (put-same (ref .values) r₃) at
-      (new-slots (b .stored r₃) (ref .values r₃) (slot-read (eqb-false (m₃ .operation) write p)) k)))))
-    where
-      history : List Operation
-      history = operationOf i (ref .members i) ∷ ref .history
+      (λ p. rw (eq-eqb i r₃ (sym (run₃ .writes (eqb-true (m₃ .operation) write p)))) (write-keeps p))
+      (λ p. on (eqb i r₃)
+      (λ o. let own = eqb-true i r₃ o in rw o (read-keeps sent (slot-owned own (ref .values r₃) (read-carries p own)) p))
+      (λ o. rw o (read-keeps (b .stored r₃) (slot-others (eqb-false i r₃ o)) p))))

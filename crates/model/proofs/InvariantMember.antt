@@ -9,7 +9,7 @@ use mathlib.Core.Logic.{⊎-elim}
 use lib.Dec.{eqb, leb}
 use borrow.Author.Tests.{eqb-true, eqb-false, eq-eqb, ne-eqb, le-leb, not-false}
 use Rattle.lists.specs.Functions.{put}
-use Rattle.lists.proofs.Functions.{on, put-at, put-off, put-all, put-both, each-all}
+use Rattle.lists.proofs.Functions.{on, either, put-at, put-off, put-all, put-both, each-all}
 use Rattle.model.specs.Rows.{Row, Matrix, comparable}
 use Rattle.model.specs.Records.{Value, Rec, write}
 use Rattle.model.specs.Kinds.{Kind, barred}
@@ -23,16 +23,17 @@ use Rattle.model.proofs.Joined.{joined-other}
 use Rattle.model.proofs.Rows.{larger-either}
 use Rattle.model.proofs.Order.{_≼_, Ordered, ≼-raised, ≼-matrixBelow, ordered-comparable, larger-above}
 use Rattle.model.proofs.Answers.{BeginTaken}
-use Rattle.model.proofs.Invariant.{Tops, countOn, marked, Replied, Current, Committed, Extends, Accepted, MemberInv, Inv}
+use Rattle.model.proofs.Invariant.{Tops, countOn, shown, marked, Replied, Current, Committed, Extends, Accepted, MemberInv, Inv}
 use Rattle.model.specs.Member
 
--- One member touched, with the counts that the tops have for it kept.
+-- One member touched, with the counts that the tops have for it and the value that it shows kept.
 pub touched : {n : ℕ} {b : Board} {ref : Reference} (inv : Inv n b ref) (i : ℕ) (m : Member) (f : RefMember)
     → MemberInv (inv .P) n i m f (b .host (m .slot)) (b .stored (m .slot))
     → ((k : ℕ) → countOn m k ≡ countOn (b .members i) k)
+    → shown m ≡ shown (b .members i)
     → Inv n (withMember b i m) (refWith ref i f)
 unfolding withMember
-touched {n} {b} {ref} inv i m f h c = record {
+touched {n} {b} {ref} inv i m f h c v = record {
   P = inv .P;
   chain = inv .chain;
   top = inv .top;
@@ -40,6 +41,7 @@ touched {n} {b} {ref} inv i m f h c = record {
   slots = inv .slots;
   counts = λ k. put-all (λ j m. b .host k .newest .matrix k j ≡ countOn m k) (b .members) i m
       (inv .counts k i ∙ sym (c k)) (λ j d. inv .counts k j);
+  shows = put-all (λ j m. shown m ≡ ref .values j) (b .members) i m (v ∙ inv .shows i) (λ j d. inv .shows j);
   members = put-both (λ k m f. MemberInv (inv .P) n k m f (b .host (m .slot)) (b .stored (m .slot))) (b .members) (ref .members) i m f
       h (λ k d. inv .members k);
 }
@@ -77,14 +79,10 @@ stepped p h one two noted e′ s′ grow old running low high mark replied curre
 
 -- Begin.
 
--- a slot and type that number 7 lets through
+-- a write that number 7 lets through
 allowed-writes : (i r t : ℕ) → barred i r t ≡ false → t ≡ write → r ≡ i
 unfolding barred
 allowed-writes i r t h e = sym (eqb-true i r (not-false _ (rw (eq-eqb t write e) at h)))
-
-allowed-reads : (i r t : ℕ) → barred i r t ≡ false → (t ≡ write → ⊥) → r ≡ i → ⊥
-unfolding barred
-allowed-reads i r t h d e = eqb-false i r (rw (ne-eqb t write d) at h) (sym e)
 
 pub begin-keeps : {kind : Kind} {n : ℕ} {b : Board} {ref : Reference} (inv : Inv n b ref) (i r t : ℕ) (v : Value)
     → BeginTaken kind n (b .members i .phase) (b .members i .crashed) (b .members i .own r) i r t
@@ -106,7 +104,7 @@ begin-keeps {kind} {n} {b} {ref} inv i r t v taken =
         member = taken .member;
         slotIn = taken .slot;
         writes = allowed-writes i r t (taken .allowed);
-        reads = allowed-reads i r t (taken .allowed);
+        reads = λ d. rw (ne-eqb t write d);
       };
       fresh = λ e. refl;
       mark = λ g h. absurd (omega arith);
@@ -117,6 +115,7 @@ begin-keeps {kind} {n} {b} {ref} inv i r t v taken =
       accepted = λ e. absurd (omega arith);
     })
     (λ k. let e = taken .isIdle in rw e refl)
+    (let e = taken .isIdle in rw e refl)
   where
     m : Member
     m = b .members i
@@ -132,10 +131,6 @@ begin-keeps {kind} {n} {b} {ref} inv i r t v taken =
 all-pass : (n i : ℕ) (m : Member) → AllPass n i m → haltNumber n i m (m .first) (m .second) 3 ≡ 0
 unfolding haltNumber
 all-pass n i m c = rw (c .pass21, c .pass22, c .pass23, c .pass24, c .pass25, c .pass26, c .pass27)
-
-either : (a : Bool) {b : Bool} → b ≡ true → (a || b) ≡ true
-either true h = refl
-either false h = h
 
 module _ {n : ℕ} {b : Board} {ref : Reference} (inv : Inv n b ref) (i : ℕ) (e : b .members i .phase ≡ 2) where
   abbrev m₂ : Member
@@ -210,7 +205,8 @@ module _ {n : ℕ} {b : Board} {ref : Reference} (inv : Inv n b ref) (i : ℕ) (
         isStored = old₂ .current e o .isStored;
       })
       (λ q. absurd (omega arith)))
-      (λ k. rw e refl))
+      (λ k. rw e refl)
+      (rw e refl))
 
 -- The verdict aborted, and the outcome taken in phases 4 and 5.
 
@@ -229,6 +225,7 @@ abort-keeps {n} {b} {ref} inv i e =
     (λ q. absurd (omega arith))
     (λ q. absurd (omega arith)))
     (λ k. rw e refl)
+    (rw e refl)
 
 -- A member at rest, whatever it took over: it has no operation that the host could hold against it.
 pub at-rest : (P : Tops) (n i : ℕ) (m : Member) (f : RefMember) (e : Entry) (stored : Rec)
@@ -270,6 +267,7 @@ completed-keeps {n} {b} {ref} inv i e =
     rw (d, put-at (m .accepted) (m .slot) (m .own (m .slot)), e, eq-eqb (m .slot) (m .slot) refl))
     (λ p. let d : k ≡ m .slot → ⊥ = eqb-false k (m .slot) p in
     rw (put-off (m .accepted) (m .slot) (m .own (m .slot)) k d, e, ne-eqb (m .slot) k (λ q. d (sym q)))))
+    (rw e refl)
 
 pub dropped-keeps : {n : ℕ} {b : Board} {ref : Reference} (inv : Inv n b ref) (i : ℕ) → b .members i .phase ≡ 5
     → Inv n (withMember b i (dropped (b .members i))) (refWith ref i (refEnded (ref .members i)))
@@ -280,6 +278,7 @@ dropped-keeps {n} {b} {ref} inv i e =
     touched inv i (dropped m) (refEnded (ref .members i))
     (at-rest (inv .P) n i m (ref .members i) _ _ (old .crashed) (old .own) (old .order) (old .knownTops))
     (λ k. rw e refl)
+    (rw e refl)
 
 -- A crash.
 
@@ -310,3 +309,4 @@ crash-keeps {n} {b} {ref} inv i =
       accepted = old .accepted;
     })
     (λ k. refl)
+    refl

@@ -26,5 +26,7 @@ pub mod History
 pub mod Demand3
 pub mod Published
 pub mod MemberClaims
-pub mod PublishedHost
+pub mod Ids
+pub mod HostPrinted
 pub mod HostHalf
+pub mod PublishedHost

@@ -123,26 +123,22 @@ pub record Tested (i r t : ℕ) (refused : Bool) : Type 0 where
 
 barred-tested : (i r t : ℕ) → Barred i r t → Tested i r t true
 unfolding isOperation barred
-barred-tested i r t b = ⊎-elim
-    (λ h. record { operation = rw (h .0); seven = rw (h .0, ne-eqb i r (h .1)) })
-    (λ h. record { operation = rw (h .0); seven = rw (h .0, eq-eqb i r (h .1)) })
-    b
+barred-tested i r t b = record { operation = rw (b .0); seven = rw (b .0, ne-eqb i r (b .1)) }
 
 pub allowed-tested : (i r t : ℕ) → Allowed i r t → Tested i r t false
 unfolding isOperation barred
 allowed-tested i r t b = ⊎-elim
     (λ h. record { operation = rw (h .0); seven = rw (h .0, eq-eqb i r (h .1)) })
-    (λ h. record { operation = rw (h .0); seven = rw (h .0, ne-eqb i r (h .1)) })
+    (λ h. record { operation = rw h; seven = rw h })
     b
 
 -- a type is none, barred or allowed
 by-type {ℓ} : {B : Type ℓ} (i r t : ℕ) → ((t ≡ 1 → ⊥) → (t ≡ 2 → ⊥) → B) → (Barred i r t → B) → (Allowed i r t → B) → B
 by-type i r t none bars allows = on (eqb t 2)
     (λ p. let e = eqb-true t 2 p in
-    on (eqb i r) (λ q. allows (inl (e, eqb-true i r q))) (λ q. bars (inl (e, eqb-false i r q))))
+    on (eqb i r) (λ q. allows (inl (e, eqb-true i r q))) (λ q. bars (e, eqb-false i r q)))
     (λ p. on (eqb t 1)
-    (λ q. let e = eqb-true t 1 q in
-    on (eqb i r) (λ s. bars (inr (e, eqb-true i r s))) (λ s. allows (inr (e, eqb-false i r s))))
+    (λ q. allows (inr (eqb-true t 1 q)))
     (λ q. none (eqb-false t 1 q) (eqb-false t 2 p)))
 
 is-busy : (phase crashed : ℕ) → (phase ≡ 0 → ⊥) ⊎ (crashed ≡ 0 → ⊥) → (not (eqb phase 0) || not (eqb crashed 0)) ≡ true

@@ -1,27 +1,29 @@
--- The member is Algorithm 3's client, with document 01's differences; and the two printed lines that halt a member with an honest server.
--- Line by line, by computing both.
+-- The member is Algorithm 3's client, with document 01's differences; and the two printed lines that halt a member with an honest server,
+-- and the line that stood at 5.12 before own reads. Line by line, by computing both.
 use Prim.Native.Nat.{ℕ, _/_, _%_}
 use mathlib.Core.Path.{_≡_, refl, sym, _∙_, ap, fun-ext}
 use mathlib.Core.Bool.{Bool, true, false, cond, not, _&&_}
+use mathlib.Core.Logic.{_↔_}
 use mathlib.Core.Option.{none}
 use native.Mathlib.Omega.{arith}
 use lib.Dec.{eqb}
-use borrow.Author.Tests.{eq-eqb, ne-eqb, eqb-true, eqb-false}
+use borrow.Author.Tests.{eq-eqb, ne-eqb, eqb-true, eqb-false, not-false}
 use Rattle.lists.specs.Functions.{put, each}
-use Rattle.lists.proofs.Functions.{on, within-at}
+use Rattle.lists.proofs.Functions.{on, apart, within-at}
 use Rattle.model.specs.Rows.{larger, below, matrixBelow, comparable, zeroRow, zeroMatrix}
 use Rattle.model.specs.Records.{Value, Rec, read, write, opening, zeroRecord}
+use Rattle.model.specs.Kinds.{isOperation, barred}
 use Rattle.model.specs.Member.{Member, idle, begun, answered, check21, check22, check23, check24, check25, check26, check27}
 use Rattle.model.specs.Member.{haltNumber, joined, ownRecord, passed, failed, replied, judged, completed, tookOver, dropped}
 use Rattle.model.specs.Member.{outcome, returnedBy}
 use Rattle.model.specs.Board.{noEntry, openingEntry, opened, sentRecord}
-use Rattle.model.specs.Published.{idOf, line33, line34, line37, line38, line38others, line38own, line39, line310, line312}
-use Rattle.model.specs.Published.{line312added, line313, line314, line315, line316, line319, opOf, line321, line323, line326}
+use Rattle.model.specs.Published.{idOf, Called, reads, writes, line33, line34, line37, line38, line38others, line38own, line39, line310}
+use Rattle.model.specs.Published.{line312, line312added, line313, line314, line315, line316, line319, opOf, line321, line323, line326}
 use Rattle.model.specs.Published.{line327, line327writes, line328, afterOk, afterOkWrites, afterAbort, afterAbortAmended, Client}
-use Rattle.model.specs.Published.{clientOpened, serverOpened, submit, commit, line54, line55, line58, line59, line512}
-use Rattle.model.specs.Published.{line512writes, line513, received, sameId}
+use Rattle.model.specs.Published.{clientOpened, Server, serverOpened, submit, commit, line54, line55, line58, line59, line512}
+use Rattle.model.specs.Published.{line512owner, line512writes, line513, received, sameId}
 use Rattle.model.specs.PublishedClaims.{variables, resting, working, submitOf, newestHeld, storedHeld, MemberAsPublished}
-use Rattle.model.specs.PublishedClaims.{OpenedAsPublished, WritesAsPrinted}
+use Rattle.model.specs.PublishedClaims.{OpenedAsPublished, OwnerAsPrinted}
 
 eqb-swap : (a b : ℕ) → eqb a b ≡ eqb b a
 eqb-swap a b = on (eqb a b)
@@ -135,9 +137,22 @@ same-whole n i m r t v newest stored =
     let matrices = same-matrix n i r (line316 t v (line33 r (resting m))) newest in
     on (eqb t write) (λ p. rw (matrices, p)) (λ p. rw (matrices, p))
 
+-- number 7 and Algorithm 1: a write is to one's own register, and a read is of any
+called : (i r t : ℕ) → isOperation t ≡ true → barred i r t ≡ false → Called i t r
+unfolding isOperation barred
+called i r t h b = on (eqb t write)
+    (λ w. let own : i ≡ r = eqb-true i r (not-false (eqb i r) (rw w at b)) in rw (eqb-true t write w, ← own) writes)
+    (λ w. let z : t ≡ read = on (eqb t read) (λ p. eqb-true t read p) (λ p. absurd (apart h (rw (p, w)))) in rw z (reads r))
+
+not-barred : (i r t : ℕ) → Called i t r → barred i r t ≡ false
+unfolding barred
+not-barred i r t (reads j) = refl
+not-barred i r t writes = rw (eq-eqb i i refl)
+
 pub member-as-published : (n i : ℕ) → MemberAsPublished n i
 unfolding resting working variables idle clientOpened begun submitOf line33 line34 line316 outcome dropped afterAbortAmended line323 down
 member-as-published n i = record {
+  calls = λ r t h. (called i r t h, not-barred i r t);
   opens = refl;
   begins = λ m r t v. refl;
   submits = λ m r t v. refl;
@@ -159,11 +174,14 @@ opened-as-published n = record {
   newest = λ r low high. ap (λ e. e .newest) (within-at n noEntry openingEntry r low high);
 }
 
-pub writes-as-printed : WritesAsPrinted
-unfolding line512 line512writes idOf
-writes-as-printed = record { stores = λ op s isWrite own. rw (isWrite, own) }
+pub owner-as-printed : OwnerAsPrinted
+unfolding line512 line512owner idOf
+owner-as-printed = record {
+  stores = λ op s own. rw (eq-eqb (op .member) (op .slot) own, own);
+  leaves = λ op s other. rw (ne-eqb (op .member) (op .slot) other);
+}
 
--- Why document 01 differs: two runs of the printed lines in which an honest server makes a client halt.
+-- Why the lines differ: runs in which an honest server makes a client halt.
 
 -- 3.21, n = 3: clients 1 and 2 read register 3, both on what the opened server answers; 1 is aborted, 2 is not. 2 writes register 2.
 -- When 1 reads that register, it halts at 3.12 (document 01's case P7).
@@ -184,3 +202,14 @@ pub line512-halts :
 unfolding line33 clientOpened opOf line319 line34 line313 line314 line315 line310 matrixBelow below each put opening zeroMatrix zeroRow
     received idOf sameId serverOpened line54 line55 line58 line59 line512 line513
 line512-halts = refl
+
+-- The line before own reads, writes alone stored, n = 2: client 1 reads its own register. When client 2 reads it, it halts at 3.10. With
+-- the third amendment it does not.
+pub writes-alone-halts :
+    let op = opOf 2 1 read 1 (line33 1 clientOpened) (opening 1) in
+    let left : (Rec → Server → Server) → Server = λ store. received store (commit op) (received store (submit (idOf op)) serverOpened) in
+    (line310 2 1 (left line512writes .x 1) (left line512writes .lso 1) ≡ false)
+    × (line310 2 1 (left line512owner .x 1) (left line512owner .lso 1) ≡ true)
+unfolding line33 clientOpened opOf line319 line34 line313 line314 line315 line310 matrixBelow below each put opening zeroMatrix zeroRow
+    received idOf sameId serverOpened line54 line55 line58 line59 line512writes line512owner line513
+writes-alone-halts = (refl, refl)

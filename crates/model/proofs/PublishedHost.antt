@@ -1,5 +1,5 @@
--- The host of a board is Algorithm 5's server with document 01's 5.12, on every run from the opening: it is the host half (HostHalf.antt),
--- and what a run's members send is fit and each commit follows its own submit once.
+-- The host of a board is Algorithm 5's server with the third amendment at 5.12, on every run from the opening: it is the host half
+-- (HostHalf.antt), and what a run's members send is fit and each commit follows its own submit once.
 use Prim.Native.Nat.{ℕ, _≤_}
 use mathlib.Core.Path.{_≡_, refl, sym, ap, ap₂, _∙_}
 use mathlib.Core.Bool.{or-false, and-true, Bool, true, false, not, _&&_, _||_}
@@ -8,7 +8,7 @@ use native.Mathlib.Omega.{arith}
 use lib.Dec.{eqb}
 use borrow.Author.Tests.{eqb-true, ne-eqb}
 use Rattle.lists.proofs.Functions.{on, both, put-at, put-all}
-use Rattle.model.specs.Records.{Value}
+use Rattle.model.specs.Records.{Value, read, write}
 use Rattle.model.specs.Kinds.{Kind}
 use Rattle.model.specs.Member.{Member, idle, begun, answered, replied, passed, failed, haltNumber, judged, outcome, completed}
 use Rattle.model.specs.Member.{tookOver, dropped, crashedOf}
@@ -16,13 +16,14 @@ use Rattle.model.specs.Host.{wins}
 use Rattle.model.specs.Board.{Board, opened, withMember, boardBegun, boardCrashed, submitTaken, replyTaken, sentRecord}
 use Rattle.model.specs.Board.{commitTaken, outcomeTaken}
 use Rattle.model.specs.Runs.{Call, answerOf, done, after}
-use Rattle.model.specs.Published.{Id, idOf, sameId, ToServer, submit, commit, FromServer, submitR, commitR}
+use Rattle.model.specs.Published.{Id, idOf, sameId, withType, ToServer, submit, commit, FromServer, submitR, commitR}
 use Rattle.model.specs.PublishedClaims.{submitOf, sentBy, gotBy, messagesOf, answersOf, HostAsPublished}
-use Rattle.model.specs.HostClaims.{Half, halfOpened, halfAfter, halfAnswer, halfAnswers, fits, idIn, allFit, eachOnce}
-use Rattle.model.specs.HostClaims.{noneWaiting, RunSends}
+use Rattle.model.specs.HostClaims.{Half, halfOpened, halfAfter, halfAnswer, halfAnswers, fits, idIn, allFit, waitsAlready}
+use Rattle.model.specs.HostClaims.{eachOnce, noneWaiting, RunSends}
 use Rattle.model.proofs.Answers.{BeginTaken}
 use Rattle.model.proofs.Steps.{Taken, begins, submits, replies, commits, ends, crashes, taken}
-use Rattle.model.proofs.HostHalf.{same-self, not-same, none-both, half-as-published}
+use Rattle.model.proofs.Ids.{same-self, not-same, none-both}
+use Rattle.model.proofs.HostHalf.{half-as-published}
 
 -- What member k has sent and not yet committed: between submit and commit its operation, and else nothing. A halted one sends no more.
 record Sends (n k : ℕ) (m : Member) (waiting : Id → Bool) : Type 0 where
@@ -77,7 +78,7 @@ module _ (n : ℕ) (b : Board) (waiting : Id → Bool) (h : AllSend n b waiting)
   submit-step : b .members i .phase ≡ 1
       → let m = submitTaken b i .members i in
       Step n b waiting (submitTaken b i) (submit (submitOf i (b .members i)) ∷ []) (submitR (m .second) (m .first) ∷ [])
-  unfolding submitTaken answered submitOf idIn allFit eachOnce halfAnswers halfAnswer halfAfter
+  unfolding submitTaken answered submitOf withType idIn allFit waitsAlready eachOnce halfAnswers halfAnswer halfAfter
   submit-step p =
       let m = b .members i in
       let id = submitOf i m in
@@ -94,7 +95,7 @@ module _ (n : ℕ) (b : Board) (waiting : Id → Bool) (h : AllSend n b waiting)
             });
         talk = λ messages answers w. record {
           fit = both fit (w .fit);
-          once = both (ap not (none id refl)) (w .once);
+          once = both {a = not (waitsAlready waiting id)} (rw (none (withType read id) refl, none (withType write id) refl)) (w .once);
           same = ap₂ _∷_ (rw (put-at (b .members) i sent)) (w .same);
         };
       }

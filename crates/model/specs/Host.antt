@@ -21,8 +21,8 @@ submitted e i count = record { submitMember = i; submitCount = count; newest = e
 unfoldable pub wins : Entry → Rec → Bool
 wins e c = eqb (e .submitMember) (c .member) && eqb (e .submitCount) (c .count)
 
--- 5.12, 5.13: "the record becomes the slot's newest record, for a write also the stored one, the mark goes back to (0, 0)"; "Otherwise
--- the host is unchanged" (5.10)
+-- 5.12, 5.13: "the record becomes the slot's newest record", by the slot's owner also the stored one (document 02, (a)), "the mark goes
+-- back to (0, 0)"; "Otherwise the host is unchanged" (5.10)
 unfoldable pub entryAfter : Entry → Rec → Entry
 entryAfter e c = cond (wins e c) (record { submitMember = 0; submitCount = 0; newest = c }) e
 

@@ -1,6 +1,6 @@
 -- What is claimed of the host half alone, by its own definitions (Host.antt): fed any messages that it does not refuse, it answers as
--- Algorithm 5's server with document 01's lines, and as the server with the printed 5.4 and 5.9 where each commit follows its own
--- submit once. HostAsPublished (PublishedClaims.antt) is about the host of a board, whose messages come from its members.
+-- Algorithm 5's server with document 01's lines and the third amendment, and as the server with the printed 5.4 and 5.9 where each commit
+-- follows its own submit once. HostAsPublished (PublishedClaims.antt) is about the host of a board, whose messages come from its members.
 use Prim.Native.Nat.{ℕ}
 use mathlib.Core.Path.{_≡_}
 use mathlib.Core.Bool.{Bool, true, false, cond, not, _&&_, _||_}
@@ -16,6 +16,7 @@ use Rattle.model.specs.Published.{
   Id,
   idOf,
   sameId,
+  withType,
   Server,
   serverOpened,
   ToServer,
@@ -24,12 +25,13 @@ use Rattle.model.specs.Published.{
   FromServer,
   submitR,
   commitR,
+  mark,
   line54noted,
   line55,
   line56,
   line58,
   line59noted,
-  line512writes,
+  line512owner,
   line513,
   serverAnswers,
 }
@@ -69,8 +71,8 @@ unfoldable pub halfAnswers : Half → List ToServer → List FromServer
 halfAnswers h [] = []
 halfAnswers h (message ∷ messages) = halfAnswer h message ∷ halfAnswers (halfAfter h message) messages
 
--- The fields are none of those that the half refuses by number 4, 5, 6 or 7 (hostNumber, Halves.antt). No member is 0, then, which a mark
--- has for none; and by 7 a member's type on a slot is one, so that a mark, which has no type, names one id.
+-- The fields are none of those that the half refuses by number 4, 5, 6 or 7 (hostNumber, Halves.antt). No member is 0, then, which the
+-- newest submit has for none.
 unfoldable pub fits : ℕ → Id → Bool
 fits n id =
     inside n (id .client)
@@ -86,26 +88,34 @@ unfoldable pub allFit : ℕ → List ToServer → Bool
 allFit n [] = true
 allFit n (message ∷ messages) = fits n (idIn message) && allFit n messages
 
--- Algorithm 5 with document 01's 5.4, 5.9 and 5.12: no other line differs.
+-- Algorithm 5 with document 01's 5.4 and 5.9, on marks, and the third amendment's 5.12: no other line differs.
 
 unfoldable pub notedAfter : Server → ToServer → Server
-notedAfter s (submit id) = line55 id (line54noted id s)
-notedAfter s (commit op) = let t = line58 op s in cond (line59noted op s) t (line513 op (line512writes op t))
+notedAfter s (submit id) = line55 (mark id) (line54noted (mark id) s)
+notedAfter s (commit op) =
+    let noted = mark (idOf op) in
+    let t = line58 noted s in
+    cond (line59noted noted s) t (line513 op (line512owner op t))
 
 unfoldable pub notedAnswer : Server → ToServer → FromServer
 notedAnswer s (submit id) = line56 id s
-notedAnswer s (commit op) = commitR (not (line59noted op s))
+notedAnswer s (commit op) = commitR (not (line59noted (mark (idOf op)) s))
 
 unfoldable pub notedAnswers : Server → List ToServer → List FromServer
 notedAnswers s [] = []
 notedAnswers s (message ∷ messages) = notedAnswer s message ∷ notedAnswers (notedAfter s message) messages
+
+-- whether an operation of the id's member, slot and count is waiting, of either type
+unfoldable pub waitsAlready : (Id → Bool) → Id → Bool
+waitsAlready waiting id = waiting (withType read id) || waiting (withType write id)
 
 -- Each commit follows its own submit, once, and no submit comes again before its commit: waiting are the ids whose submit came and whose
 -- commit did not. Members send such streams, as RunSends says of every run: one operation runs at a time, its submit goes out in phase 1
 -- and its commit in phase 3, once each, and the next begin is after the outcome; a member that halted or crashed begins no more.
 unfoldable pub eachOnce : (Id → Bool) → List ToServer → Bool
 eachOnce waiting [] = true
-eachOnce waiting (submit id ∷ messages) = not (waiting id) && eachOnce (λ other. waiting other || sameId other id) messages
+eachOnce waiting (submit id ∷ messages) =
+    not (waitsAlready waiting id) && eachOnce (λ other. waiting other || sameId other id) messages
 eachOnce waiting (commit op ∷ messages) =
     waiting (idOf op) && eachOnce (λ other. waiting other && not (sameId other (idOf op))) messages
 
@@ -116,12 +126,12 @@ noneWaiting id = false
 -- The claims.
 
 pub record HalfAsPublished (n : ℕ) (messages : List ToServer) : Type 0 where
-  -- on every stream that fits, Algorithm 5 with document 01's lines
+  -- on every stream that fits, Algorithm 5 with these lines
   pub noted : allFit n messages ≡ true
       → notedAnswers serverOpened messages ≡ halfAnswers (halfOpened n) messages
   -- as printed but for 5.12, where each commit follows its own submit once
   pub printed : allFit n messages ≡ true → eachOnce noneWaiting messages ≡ true
-      → serverAnswers line512writes serverOpened messages ≡ halfAnswers (halfOpened n) messages
+      → serverAnswers line512owner serverOpened messages ≡ halfAnswers (halfOpened n) messages
 
 -- what the members of every run send meets both premises
 pub record RunSends (kind : Kind) (n : ℕ) (calls : List Call) : Type 0 where
@@ -136,24 +146,25 @@ unasked op = commit op ∷ []
 unfoldable pub repeated : Rec → List ToServer
 repeated op = submit (idOf op) ∷ commit op ∷ commit op ∷ []
 
--- and at 5.4: after the submit that comes a second time Algorithm 5 aborts, and the half accepts
-unfoldable pub resubmitted : Rec → List ToServer
-resubmitted op = submit (idOf op) ∷ submit (idOf op) ∷ commit op ∷ []
+-- and at 5.4: after the submit that comes a second time, under whatever type, Algorithm 5 aborts, and the half accepts
+unfoldable pub resubmitted : ℕ → Rec → List ToServer
+resubmitted t op = submit (idOf op) ∷ submit (withType t (idOf op)) ∷ commit op ∷ []
 
 pub record HalfDiffers (n : ℕ) (op : Rec) : Type 0 where
-  pub unaskedServer : serverAnswers line512writes serverOpened (unasked op) ≡ commitR true ∷ []
+  pub unaskedServer : serverAnswers line512owner serverOpened (unasked op) ≡ commitR true ∷ []
   pub unaskedHalf : halfAnswers (halfOpened n) (unasked op) ≡ commitR false ∷ []
-  pub repeatedServer : serverAnswers line512writes serverOpened (repeated op)
+  pub repeatedServer : serverAnswers line512owner serverOpened (repeated op)
       ≡ submitR (opening (op .slot)) (opening (op .slot)) ∷ commitR true ∷ commitR true ∷ []
   pub repeatedHalf : halfAnswers (halfOpened n) (repeated op)
       ≡ submitR (opening (op .slot)) (opening (op .slot)) ∷ commitR true ∷ commitR false ∷ []
-  pub resubmittedServer : serverAnswers line512writes serverOpened (resubmitted op)
+  pub resubmittedServer : (t : ℕ) → serverAnswers line512owner serverOpened (resubmitted t op)
       ≡ submitR (opening (op .slot)) (opening (op .slot)) ∷ submitR (opening (op .slot)) (opening (op .slot)) ∷ commitR false ∷ []
-  pub resubmittedHalf : halfAnswers (halfOpened n) (resubmitted op)
+  pub resubmittedHalf : (t : ℕ) → halfAnswers (halfOpened n) (resubmitted t op)
       ≡ submitR (opening (op .slot)) (opening (op .slot)) ∷ submitR (opening (op .slot)) (opening (op .slot)) ∷ commitR true ∷ []
 
 -- A stream in which the premises hold, with its answers written out: on slot 1 of two, member 2's read overtakes member 1's write, which
--- is aborted; the read is accepted; member 1 writes again, and member 2 reads what it wrote.
+-- is aborted; the read is accepted; member 1 writes again, and member 2 reads what it wrote. Member 1 reads its own slot, and member 2 is
+-- sent that read as the stored record.
 
 -- member i's operation of type t on slot 1, its k-th, with k in each of the value's 8 words
 unfoldable pub onSlot1 : ℕ → ℕ → ℕ → Rec
@@ -169,6 +180,9 @@ sample =
     ∷ commit (onSlot1 1 write 2)
     ∷ submit (record { client = 2; count = 2; operation = read; reg = 1 })
     ∷ commit (onSlot1 2 read 2)
+    ∷ submit (record { client = 1; count = 3; operation = read; reg = 1 })
+    ∷ commit (onSlot1 1 read 3)
+    ∷ submit (record { client = 2; count = 3; operation = read; reg = 1 })
     ∷ []
 
 unfoldable pub sampleAnswers : List FromServer
@@ -181,10 +195,13 @@ sampleAnswers =
     ∷ commitR true
     ∷ submitR (onSlot1 1 write 2) (onSlot1 1 write 2)
     ∷ commitR true
+    ∷ submitR (onSlot1 1 write 2) (onSlot1 2 read 2)
+    ∷ commitR true
+    ∷ submitR (onSlot1 1 read 3) (onSlot1 1 read 3)
     ∷ []
 
 pub record SampleHolds : Type 0 where
   pub fit : allFit 2 sample ≡ true
   pub once : eachOnce noneWaiting sample ≡ true
   pub answers : halfAnswers (halfOpened 2) sample ≡ sampleAnswers
-  pub server : serverAnswers line512writes serverOpened sample ≡ sampleAnswers
+  pub server : serverAnswers line512owner serverOpened sample ≡ sampleAnswers

@@ -3,7 +3,7 @@
 -- same for all kinds: the sizes of boards, what is an operation, which fields fit, what number 7 refuses, what becomes
 -- stored.
 use Prim.Native.Nat.{ℕ, _≤_}
-use mathlib.Core.Bool.{Bool, cond, not, _&&_, _||_}
+use mathlib.Core.Bool.{Bool, not, _&&_, _||_}
 use native.Mathlib.Omega.{arith}
 use lib.Dec.{eqb}
 use Rattle.lists.specs.Functions.{inside}
@@ -35,10 +35,11 @@ isOperation t = eqb t read || eqb t write
 abbrev pub fitFields : ℕ → ℕ → ℕ → ℕ → Bool
 fitFields n i r t = inside n i && inside n r && isOperation t
 
--- what number 7 refuses: "a write to another's slot or a read of one's own"
+-- what number 7 refuses: document 02, (a), "Number 7 stays for a write to another's slot"; every slot may be read, one's own too
 unfoldable pub barred : ℕ → ℕ → ℕ → Bool
-barred i r t = cond (eqb t write) (not (eqb i r)) (eqb i r)
+barred i r t = eqb t write && not (eqb i r)
 
--- whether an accepted record also becomes the slot's stored record: "for a write also the stored one"
+-- whether an accepted record also becomes the slot's stored record: document 02, (a), "An accepted operation by the slot's owner, read
+-- or write, becomes the stored record"
 unfoldable pub becomesStored : Rec → Bool
-becomesStored c = eqb (c .operation) write
+becomesStored c = eqb (c .member) (c .slot)

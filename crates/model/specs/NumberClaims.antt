@@ -11,12 +11,13 @@ use Rattle.model.specs.Numbers.{beginAnswer, deliverAnswer, crashAnswer}
 abbrev pub OneTo : ℕ → ℕ → Type 0
 OneTo n k = (1 ≤ k) × (k ≤ n)
 
--- types are 1 read and 2 write. 7 "a write to another's slot or a read of one's own"; and what is neither.
+-- Types are 1 read and 2 write. Document 02, (a): "Number 7 stays for a write to another's slot". Left are a write to one's own slot and
+-- a read of any.
 abbrev pub Barred : ℕ → ℕ → ℕ → Type 0
-Barred i r t = ((t ≡ 2) × (i ≡ r → ⊥)) ⊎ ((t ≡ 1) × (i ≡ r))
+Barred i r t = (t ≡ 2) × (i ≡ r → ⊥)
 
 abbrev pub Allowed : ℕ → ℕ → ℕ → Type 0
-Allowed i r t = ((t ≡ 2) × (i ≡ r)) ⊎ ((t ≡ 1) × (i ≡ r → ⊥))
+Allowed i r t = ((t ≡ 2) × (i ≡ r)) ⊎ (t ≡ 1)
 
 -- begin, by member i of n in a phase and with a crash mark, on slot r, of type t; count is its own count there
 pub record BeginNumbers (limit n phase crashed count i r t answer : ℕ) : Type 0 where

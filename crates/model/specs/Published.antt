@@ -1,11 +1,10 @@
--- CONCUR as published: document 000, Fig. 1, Algorithm 3 (client i) and Algorithm 5 (server), line by line and in the paper's names,
--- so that the definitions of the other files are not their own witness. PublishedClaims.antt says how the two are tied.
+-- CONCUR as published: document 000, Algorithm 1, Fig. 1, Algorithm 3 (client i) and Algorithm 5 (server), line by line and in the
+-- paper's names, so that the definitions of the other files are not their own witness. PublishedClaims.antt says how the two are tied.
 --
 -- Each line is a definition named by its number: line38 is line 3.8. An operation (Definition 17) is a record, whose matrix is its tsm.
 -- Signatures are left out: whether they verify is an argument of 3.7. The order on vectors and on operations (Definitions 6, 7, 18) is
 -- that of Rows.antt. Where document 01 has another line, a comment "Document 01 differs" says so, and its line stands beside the
--- printed one. Phases, halt numbers, number 9 and crash marks are document 01's additions. So is the half of number 7 that refuses a
--- read of one's own slot: Algorithm 1 has Read(j) for every j, section 3 lets a client "read from all other registers".
+-- printed one; at 5.12 it is document 02's, request (a). Phases, halt numbers, number 9 and crash marks are document 01's additions.
 use Prim.Native.Nat.{ℕ, _+_}
 use mathlib.Core.Bool.{Bool, false, cond, not, _&&_, _||_}
 use mathlib.Core.List.{List, [], _∷_}
@@ -28,6 +27,17 @@ idOf op = record { client = op .member; count = op .count; operation = op .opera
 unfoldable pub sameId : Id → Id → Bool
 sameId a b =
     eqb (a .client) (b .client) && (eqb (a .count) (b .count) && (eqb (a .operation) (b .operation) && eqb (a .reg) (b .reg)))
+
+-- an id under another type
+unfoldable pub withType : ℕ → Id → Id
+withType t id = record { client = id .client; count = id .count; operation = t; reg = id .reg }
+
+-- Algorithm 1, client i: the rw_operations that it may call, by type and register
+pub data Called (i : ℕ) : ℕ → ℕ → Type 0 where
+  -- Read(j) do rw_operation(READ, ⊥, j): any register, its own too ("may read from any register", section 4.2)
+  reads : (j : ℕ) → Called i read j
+  -- Write(v) do rw_operation(WRITE, v, i)
+  writes : Called i write i
 
 -- Fig. 1: op_cnt[1..n], ts_suc[1..n], value_suc, op.value and tsm_comp, what an operation of a client finds from the one before. The
 -- rest of op, and abort and retval, each operation sets anew.
@@ -237,8 +247,12 @@ pub data FromServer : Type 0 where
 unfoldable pub line54 : Id → Server → Server
 line54 id s = record { pnd = s .pnd; abrt = put (s .abrt) (id .reg) (s .pnd (id .reg)); x = s .x; lso = s .lso }
 
--- Document 01 differs: "the host notes (member, own count) as newest submit of the slot", so a submit that comes again is no other
--- operation, and does not abort its own. As printed it does. No member sends one again.
+-- Document 01 differs: "the host notes (member, own count) as newest submit of the slot". This mark is an id without its type: 0 is none.
+unfoldable pub mark : Id → Id
+mark id = withType 0 id
+
+-- So a submit that comes again, under either type, is no other operation, and does not abort its own. As printed it does. No member
+-- sends one again.
 unfoldable pub line54noted : Id → Server → Server
 line54noted id s = record {
   pnd = s .pnd;
@@ -262,24 +276,24 @@ line56 id s = submitR (s .x (id .reg)) (s .lso (id .reg))
 
 -- 5.7 upon receiving message (COMMIT, op) from client i do
 -- 5.8 Pnd[op.id.reg] ← Pnd[op.id.reg] \ {op.id}
-unfoldable pub line58 : Rec → Server → Server
-line58 op s = let reg = idOf op .reg in record {
-  pnd = put (s .pnd) reg (λ other. s .pnd reg other && not (sameId other (idOf op)));
+unfoldable pub line58 : Id → Server → Server
+line58 id s = record {
+  pnd = put (s .pnd) (id .reg) (λ other. s .pnd (id .reg) other && not (sameId other id));
   abrt = s .abrt;
   x = s .x;
   lso = s .lso;
 }
 
 -- 5.9 if op.id ∈ Abrt[op.id.reg] then
-unfoldable pub line59 : Rec → Server → Bool
-line59 op s = s .abrt (idOf op .reg) (idOf op)
+unfoldable pub line59 : Id → Server → Bool
+line59 id s = s .abrt (id .reg) id
 
 -- Document 01 differs: accepted "if the newest submit is this member and own count .. Otherwise phase 5 and the host is unchanged". A
 -- commit that was never submitted, or that comes again, is in no Abrt, so that the printed line accepts it; the host half aborts it:
 -- here if it was not in Pnd before 5.8. HostClaims.antt has the difference, and that there is none where each commit follows its own
 -- submit once.
-unfoldable pub line59noted : Rec → Server → Bool
-line59noted op s = s .abrt (idOf op .reg) (idOf op) || not (s .pnd (idOf op .reg) (idOf op))
+unfoldable pub line59noted : Id → Server → Bool
+line59noted id s = s .abrt (id .reg) id || not (s .pnd (id .reg) id)
 
 -- 5.10 send (COMMIT_R, ABORT) to client i
 -- 5.11 else
@@ -287,9 +301,20 @@ line59noted op s = s .abrt (idOf op .reg) (idOf op) || not (s .pnd (idOf op .reg
 unfoldable pub line512 : Rec → Server → Server
 line512 op s = record { pnd = s .pnd; abrt = s .abrt; x = put (s .x) (idOf op .client) op; lso = s .lso }
 
--- Document 01 differs: "for a write also the stored one", and a write's slot is its client's. As printed, a client's accepted read takes
--- the place of its last write in X, and the next reader halts at 3.10 though the server is honest: n = 2, client 2 reads register 1,
--- then client 1 reads register 2.
+-- Document 02, (a), differs, the third amendment: "An accepted operation by the slot's owner, read or write, becomes the stored record."
+-- That is the printed line on the client's own register. On another's the printed line is wrong: the read takes the place of what the
+-- client last did on its own register, and the next reader of that halts at 3.10 though the server is honest: n = 2, client 2 reads
+-- register 1, then client 1 reads register 2 (`line512-halts`).
+unfoldable pub line512owner : Rec → Server → Server
+line512owner op s = record {
+  pnd = s .pnd;
+  abrt = s .abrt;
+  x = cond (eqb (idOf op .client) (idOf op .reg)) (put (s .x) (idOf op .reg) op) (s .x);
+  lso = s .lso;
+}
+
+-- Document 01's line, "for a write also the stored one", was right while no client read its own register. With own reads it is not: the
+-- next client on that register halts at 3.10 (`writes-alone-halts`).
 unfoldable pub line512writes : Rec → Server → Server
 line512writes op s = record {
   pnd = s .pnd;
@@ -303,14 +328,16 @@ line512writes op s = record {
 unfoldable pub line513 : Rec → Server → Server
 line513 op s = record { pnd = s .pnd; abrt = s .abrt; x = s .x; lso = put (s .lso) (idOf op .reg) op }
 
--- The server after a message, and its answer. What stands at 5.12, the printed line or document 01's, is an argument.
+-- The server after a message, and its answer. What stands at 5.12, the printed line or another, is an argument.
 unfoldable pub received : (Rec → Server → Server) → ToServer → Server → Server
 received store (submit id) s = line55 id (line54 id s)
-received store (commit op) s = let t = line58 op s in cond (line59 op t) t (line513 op (store op t))
+received store (commit op) s =
+    let t = line58 (idOf op) s in
+    cond (line59 (idOf op) t) t (line513 op (store op t))
 
 unfoldable pub answerTo : ToServer → Server → FromServer
 answerTo (submit id) s = line56 id s
-answerTo (commit op) s = commitR (not (line59 op s))
+answerTo (commit op) s = commitR (not (line59 (idOf op) s))
 
 unfoldable pub serverAnswers : (Rec → Server → Server) → Server → List ToServer → List FromServer
 serverAnswers store s [] = []

@@ -2,16 +2,18 @@
 use Prim.Native.Nat.{ℕ, _/_, _%_, _≤_}
 use mathlib.Core.Path.{_≡_}
 use mathlib.Core.Bool.{Bool, true, false, cond, not, _&&_}
+use mathlib.Core.Logic.{_↔_}
 use mathlib.Core.List.{List, [], _∷_, _++_}
 use mathlib.Core.Option.{none}
 use lib.Dec.{eqb}
-use Rattle.model.specs.Records.{Value, Rec, write}
-use Rattle.model.specs.Kinds.{Kind}
+use Rattle.model.specs.Records.{Value, Rec}
+use Rattle.model.specs.Kinds.{Kind, isOperation, barred}
 use Rattle.model.specs.Member.{Member, idle, begun, answered, replied, passed, failed, judged, outcome, returnedBy}
 use Rattle.model.specs.Board.{Board, opened, sentRecord}
 use Rattle.model.specs.Runs.{Call, begin, deliver, crash, answerOf, after}
 use Rattle.model.specs.Published.{
   Id,
+  Called,
   Client,
   clientOpened,
   line33,
@@ -39,7 +41,7 @@ use Rattle.model.specs.Published.{
   submitR,
   commitR,
   line512,
-  line512writes,
+  line512owner,
   serverAnswers,
 }
 
@@ -74,6 +76,8 @@ storedHeld seals = eqb (seals / 2) 1
 
 -- Of every state m of member i, honest host or not: the newest record of a reply is lso, the stored one x_op.
 pub record MemberAsPublished (n i : ℕ) : Type 0 where
+  -- of reads and writes, number 7 lets through exactly the calls of Algorithm 1
+  pub calls : (r t : ℕ) → isOperation t ≡ true → (barred i r t ≡ false) ↔ Called i t r
   -- the client's variables at first
   pub opens : resting idle ≡ clientOpened
   -- begin is 3.3, and 3.16 made at once
@@ -152,10 +156,10 @@ answersOf kind n b (call ∷ calls) =
     let left = after kind n b call in
     cond (eqb (answerOf kind n b call) 0) (gotBy b left call) [] ++ answersOf kind n left calls
 
--- Algorithm 5 with document 01's 5.12, fed the messages of a run from the opening, gives the answers that the run's members got: to each
--- submit the same records, to each commit the same verdict.
+-- Algorithm 5 with the third amendment at 5.12, fed the messages of a run from the opening, gives the answers that the run's members
+-- got: to each submit the same records, to each commit the same verdict.
 pub record HostAsPublished (kind : Kind) (n : ℕ) (calls : List Call) : Type 0 where
-  pub answers : serverAnswers line512writes serverOpened (messagesOf kind n (opened n) calls)
+  pub answers : serverAnswers line512owner serverOpened (messagesOf kind n (opened n) calls)
       ≡ answersOf kind n (opened n) calls
 
 -- The opening board's members are idle, and the records of slots 1 to n are X and lso of the opened server.
@@ -164,6 +168,7 @@ pub record OpenedAsPublished (n : ℕ) : Type 0 where
   pub stored : (r : ℕ) → 1 ≤ r → r ≤ n → opened n .stored r ≡ serverOpened .x r
   pub newest : (r : ℕ) → 1 ≤ r → r ≤ n → opened n .host r .newest ≡ serverOpened .lso r
 
--- Document 01's 5.12 is the printed one for a write, whose slot is its client's own.
-pub record WritesAsPrinted : Type 0 where
-  pub stores : (op : Rec) (s : Server) → op .operation ≡ write → op .member ≡ op .slot → line512writes op s ≡ line512 op s
+-- The third amendment's 5.12 is the printed line on the client's own register, and stores nothing on another's.
+pub record OwnerAsPrinted : Type 0 where
+  pub stores : (op : Rec) (s : Server) → op .member ≡ op .slot → line512owner op s ≡ line512 op s
+  pub leaves : (op : Rec) (s : Server) → (op .member ≡ op .slot → ⊥) → line512owner op s ≡ s
