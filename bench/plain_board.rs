@@ -68,7 +68,7 @@ fn numbered(k: u32, n: u32) -> bool {
 }
 
 fn barred(member: u32, slot: u32, operation: u32) -> bool {
-    (operation == WRITE) != (member == slot)
+    operation == WRITE && member != slot
 }
 
 fn sound_record(r: &[u32], n: u32) -> bool {
@@ -326,7 +326,7 @@ pub mod by_value {
         e[SUBMIT_MEMBER] = 0;
         e[SUBMIT_COUNT] = 0;
         store_record(&mut e[l.newest..], l.n, r);
-        if r.operation == WRITE {
+        if r.member == r.slot {
             e.copy_within(l.newest.., STORED);
         }
         true
@@ -493,7 +493,7 @@ pub mod in_place {
         let newest = &mut e[l.newest..];
         newest.copy_from_slice(&b[l.first..l.second]);
         newest[..4].copy_from_slice(&[member, b[SLOT], b[OPERATION], count]);
-        if b[OPERATION] == WRITE {
+        if b[SLOT] == member {
             e.copy_within(l.newest.., STORED);
         }
         b[PHASE] = 4;

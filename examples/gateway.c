@@ -1,8 +1,9 @@
 /*
  * A board in a C program: gateway N WRITER READER VALUE
  *
- * Opens a board of N members; member WRITER writes VALUE to its own slot, member READER reads that slot; prints what the read returned. An
- * operation that clashes with another aborts and may be run again. Any refusal is printed with its number (docs/NUMBERS.md), with status 1.
+ * Opens a board of N members; member WRITER writes VALUE to its own slot, member READER, who may be WRITER, reads that slot; prints what
+ * the read returned. An operation that clashes with another aborts and may be run again. Any refusal is printed with its number
+ * (docs/NUMBERS.md), with status 1.
  */
 #include <concur.h>
 #include <stdio.h>

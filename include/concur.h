@@ -14,7 +14,7 @@
  *        4  no such member
  *        5  no such slot
  *        6  the type is not 1 (read) or 2 (write)
- *        7  a write to another member's slot, or a read of one's own
+ *        7  a write to another member's slot (any slot may be read, one's own too)
  *        8  begin: the member is not in phase 0 (idle), or has crashed
  *        9  begin: the member's count on this slot is spent (4,294,967,295)
  *       10  deliver: nothing to deliver (phase 0 or 6), or the member has crashed and the message is for it; a half: it is in

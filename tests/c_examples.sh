@@ -52,7 +52,7 @@ S='255 254 253 252' R=$two
 # A board of 2: reply 81 + 8 * 4 = 113 and 115 bytes in all, commit 42 + 4 * 4 = 58 and 60 in all.
 message 0 2 'submit of a read'     0 9 1 1 1 2 1 $S
 message 0 2 'submit of a write'    0 9 1 1 2 2 2 $S
-message 0 2 'what 7 would refuse'  0 9 1 1 1 1 1 $S
+message 0 2 'what 7 would refuse'  0 9 1 1 1 2 2 $S
 message 0 2 'reply'                0 113 1 2 2 1 2 1 $R 2 2 2 $R
 message 0 2 'commit'               0 58 1 3 2 1 2 1 $R
 message 0 2 'accepted'             0 3 1 4 1
@@ -135,7 +135,8 @@ gateway 'open refused: 1'                     1 0 1 2 77
 gateway 'open refused: 1'                     1 13 1 2 77
 gateway 'begin refused: 4'                    1 2 3 1 77
 gateway 'begin refused: 4'                    1 2 1 0 77
-gateway 'begin refused: 7'                    1 1 1 1 77
+gateway 'member 1 read slot 1: 77'            0 1 1 1 77
+gateway 'member 3 read slot 3: 5'             0 4 3 3 5
 gateway 'usage: gateway N WRITER READER VALUE' 2 2 1 2
 
 echo "C examples: $tried cases, $wrong wrong"

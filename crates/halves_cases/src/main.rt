@@ -1,5 +1,5 @@
-// The cases P9, P10 and P11 of document 01 on the two halves as they run, and the pairs that a reply's checks look at; what is printed is
-// compared with the file stdout.
+// The cases P9, P10 and P11 of document 01 and an own read (document 02, (a)) on the two halves as they run, and the pairs that a reply's
+// checks look at; what is printed is compared with the file stdout.
 use records::Record;
 use rows::Row;
 
@@ -76,6 +76,64 @@ fn p11() {
     line(replied.number, block[0], block[2]);
 }
 
+// The entries of a board of 2 after member 1's first operation, a write of 77: it is slot 1's stored and newest record.
+fn written() -> [u32; 68] {
+    let mut entries = [0u32; 68];
+    entries[2] = 1;
+    entries[3] = 1;
+    entries[4] = 2;
+    entries[5] = 1;
+    entries[13] = 77;
+    entries[14] = 1;
+    entries[18] = 1;
+    entries[19] = 1;
+    entries[20] = 2;
+    entries[21] = 1;
+    entries[29] = 77;
+    entries[30] = 1;
+    entries
+}
+
+// Then member 1 reads its own slot: the read carries 77, returns 77 and becomes the stored record, with its count and row. A write to
+// another's slot is 7, of the host and of the member.
+fn own_read() {
+    let mut entries = written();
+    let mut block = [0u32; 61];
+    block[5] = 1;
+    block[7] = 1;
+    block[16] = 77;
+    block[25] = 1;
+    let begun = member::begin(&mut block, 2, 1, 1, 1, [0; 8]);
+    line(begun, block[0], block[24]);
+    let reply = host::take_submit(&mut entries, 2, 1, 1, 1, 2);
+    let newest = reply.newest;
+    let stored = reply.stored;
+    line(reply.number, entries[0], entries[1]);
+    let replied = member::take_reply(&mut block, 2, 1, newest, stored, 3);
+    line(replied.number, block[0], block[41]);
+    let row = Row::ZERO.with(1, 2);
+    let mut matrix = [Row::ZERO; 12];
+    matrix[0] = row;
+    let commit = Record {
+        member: 1,
+        slot: 1,
+        operation: 1,
+        count: 2,
+        value: [0, 0, 0, 0, 0, 0, 0, 77],
+        matrix,
+    };
+    let verdict = host::take_commit(&mut entries, 2, commit);
+    line(verdict.number, verdict.outcome, entries[4]);
+    line(entries[5], entries[13], entries[14]);
+    let ended = member::take_outcome(&mut block, 2, 1, 1);
+    let value = ended.value;
+    line(ended.number, block[0], value[7]);
+    let stray = host::take_submit(&mut entries, 2, 2, 1, 2, 1);
+    line(stray.number, entries[0], entries[1]);
+    let refused = member::begin(&mut block, 2, 1, 2, 2, [0; 8]);
+    line(refused, block[0], block[6]);
+}
+
 // Member 2 of 3, which reads slot 1, takes a reply: the answer, the halt number, the pairs looked at.
 fn looks(given: [u32; 78], newest: Record, stored: Record, seals: u32) {
     let mut block = given;
@@ -140,6 +198,7 @@ fn main() {
     p9();
     p10();
     p11();
+    own_read();
     slot_pairs();
     stored_pairs();
     other_pairs();

@@ -41,7 +41,7 @@ pub fn submit_entry(entry: &mut [u32], n: usize, member: u32, count: u32) -> Rep
     }
 }
 
-// The entry of a commit that won: the record is the newest, for a write also the stored one, and there is no newest submit.
+// The entry of a commit that won: the record is the newest, by the slot's owner also the stored one, and there is no newest submit.
 fn accept(entry: &mut [u32], n: usize, committed: Record)
     requires { ⌜ OneEntry n (now entry) ⌝ }
     ensures { λ _. ⌜ entryIn n (now (entry .exit)) ≡ record { submitMember = 0; submitCount = 0; newest = recordFor n committed } ⌝ }
@@ -57,7 +57,7 @@ fn accept(entry: &mut [u32], n: usize, committed: Record)
     }
 }
 
-// The entry of a slot at first: as if its opening record, which is a write, had just been accepted.
+// The entry of a slot at first: as if its opening record, which is by its owner, had just been accepted.
 pub fn open_entry(entry: &mut [u32], n: usize, slot: u32)
     requires { ⌜ OneEntry n (now entry) ⌝ }
     ensures { λ _. ⌜ entryIn n (now (entry .exit)) ≡ openingEntry slot ⌝ }

@@ -6,7 +6,7 @@ use mathlib.Core.Bool.{or-false, and-true, Bool, true, false, cond, not, _&&_, _
 use mathlib.Core.List.{List, [], _∷_}
 use mathlib.Core.Logic.{_⊎_, inl, inr, ⊎-elim}
 use lib.Dec.{eqb}
-use borrow.Author.Tests.{eqb-true, eqb-false, not-false}
+use borrow.Author.Tests.{eqb-true, eqb-false, not-true}
 use Rattle.lists.specs.Functions.{put}
 use Rattle.lists.proofs.Functions.{on, both, either, apart, first, second, fails}
 use Rattle.model.specs.Records.{Rec, read, write}
@@ -15,7 +15,7 @@ use Rattle.model.specs.Published.{Id, idOf, sameId, withType, mark, Serv
 use Rattle.model.specs.Published.{commitR, line54, line54noted, line55, line56, line58, line59, line59noted, line512owner}
 use Rattle.model.specs.Published.{line513, received, answerTo, serverAnswers}
 use Rattle.model.specs.HostClaims.{fits, idIn, allFit, notedAfter, notedAnswer, notedAnswers, waitsAlready, eachOnce, noneWaiting}
-use Rattle.model.proofs.Ids.{same-self, same-eq, not-same, mark-retyped, mark-reg, fit-parts}
+use Rattle.model.proofs.Ids.{same-self, same-eq, not-same, mark-retyped, fit-parts}
 
 -- s is the server with the printed lines, t with document 01's.
 record Printed (waiting : Id → Bool) (s t : Server) : Type 0 where
@@ -120,11 +120,7 @@ module _ (waiting : Id → Bool) (s t : Server) (h : Printed waiting s t) where
     other-mark : (a : Id) → less a ≡ true → sameId (mark a) (mark (idOf op)) ≡ false
     other-mark a w = not-same (mark a) (mark (idOf op)) (λ e.
         let z : a ≡ idOf op = h .alone a (idOf op) (still a w) came e in
-        apart (rw z (same-self (idOf op))) (not-true-of (sameId a (idOf op)) (second (waiting a) (not (sameId a (idOf op))) w)))
-      where
-        not-true-of : (b : Bool) → not b ≡ true → b ≡ false
-        not-true-of true g = sym g
-        not-true-of false g = refl
+        apart (rw z (same-self (idOf op))) (not-true (sameId a (idOf op)) (second (waiting a) (not (sameId a (idOf op))) w)))
 
     removed-printed : Printed less (line58 (idOf op) s) (line58 (mark (idOf op)) t)
     unfolding line58 put mark withType

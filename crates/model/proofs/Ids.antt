@@ -1,9 +1,9 @@
 -- Ids of operations and their marks (Published.antt): when two are the same, and what fits.
 use Prim.Native.Nat.{ℕ}
-use mathlib.Core.Path.{_≡_, refl, ap}
+use mathlib.Core.Path.{_≡_, refl}
 use mathlib.Core.Bool.{Bool, true, false, not, _&&_}
 use lib.Dec.{eqb}
-use borrow.Author.Tests.{eq-eqb, eqb-true, eqb-false}
+use borrow.Author.Tests.{eq-eqb, eqb-true}
 use Rattle.lists.specs.Functions.{inside}
 use Rattle.lists.proofs.Functions.{on, apart, first, second}
 use Rattle.model.specs.Kinds.{isOperation, barred}
@@ -41,10 +41,6 @@ not-same a b d = on (sameId a b) (λ q. absurd (d (same-eq a b q))) (λ q. q)
 pub mark-retyped : (a b : Id) → mark a ≡ mark b → a ≡ withType (a .operation) b
 unfolding mark withType
 mark-retyped a b e = λ i. record { client = e i .client; count = e i .count; operation = a .operation; reg = e i .reg }
-
-pub mark-reg : (a : Id) → mark a .reg ≡ a .reg
-unfolding mark withType
-mark-reg a = refl
 
 -- what fits: a member and a slot of the n, and a type that number 7 leaves
 module _ (n : ℕ) (a : Id) (f : fits n a ≡ true) where

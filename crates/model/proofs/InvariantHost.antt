@@ -325,7 +325,8 @@ module _ {n : ℕ} {b : Board} {ref : Reference} (inv : Inv n b ref) (i : ℕ) (
   shows-written : (written : eqb (m₃ .operation) write ≡ true) (r : ℕ) → r ≡ i
       → (k : ℕ) → shown (put (b .members) i (judged m₃ true) k) ≡ put (ref .values) r (ref .members i .value) k
   unfolding judged
-  shows-written written r own = rw own (put-both (λ k m v. shown m ≡ v) (b .members) (ref .values) i (judged m₃ true) (ref .members i .value)
+  shows-written written r own = rw own
+      (put-both (λ k m v. shown m ≡ v) (b .members) (ref .values) i (judged m₃ true) (ref .members i .value)
       (rw written (old₃ .value (eqb-true (m₃ .operation) write written))) (λ k d. inv .shows k))
 
   shows-read : eqb (m₃ .operation) write ≡ false → (k : ℕ) → shown (put (b .members) i (judged m₃ true) k) ≡ ref .values k

@@ -3,7 +3,6 @@
 use Prim.Native.Nat.{ℕ, _/_, _%_}
 use mathlib.Core.Path.{_≡_, refl, sym, _∙_, ap, fun-ext}
 use mathlib.Core.Bool.{Bool, true, false, cond, not, _&&_}
-use mathlib.Core.Logic.{_↔_}
 use mathlib.Core.Option.{none}
 use native.Mathlib.Omega.{arith}
 use lib.Dec.{eqb}
@@ -17,8 +16,8 @@ use Rattle.model.specs.Member.{Member, idle, begun, answered, check21, c
 use Rattle.model.specs.Member.{haltNumber, joined, ownRecord, passed, failed, replied, judged, completed, tookOver, dropped}
 use Rattle.model.specs.Member.{outcome, returnedBy}
 use Rattle.model.specs.Board.{noEntry, openingEntry, opened, sentRecord}
-use Rattle.model.specs.Published.{idOf, Called, reads, writes, line33, line34, line37, line38, line38others, line38own, line39, line310}
-use Rattle.model.specs.Published.{line312, line312added, line313, line314, line315, line316, line319, opOf, line321, line323, line326}
+use Rattle.model.specs.Published.{idOf, Called, reads, writes, line33, line34, line37, line38, line38others, line38own, line39}
+use Rattle.model.specs.Published.{line310, line312, line312added, line313, line314, line315, line316, line319, opOf, line321, line323, line326}
 use Rattle.model.specs.Published.{line327, line327writes, line328, afterOk, afterOkWrites, afterAbort, afterAbortAmended, Client}
 use Rattle.model.specs.Published.{clientOpened, Server, serverOpened, submit, commit, line54, line55, line58, line59, line512}
 use Rattle.model.specs.Published.{line512owner, line512writes, line513, received, sameId}

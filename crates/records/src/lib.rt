@@ -44,11 +44,11 @@ impl Record {
         is_fit(self.member, self.slot, self.operation, n)
     }
 
-    // Does it become the slot's stored record, once it is accepted? A write does.
+    // Does it become the slot's stored record, once it is accepted? It does if it is by the slot's owner, read or write.
     pub fn becomes_stored(self) -> bool
         ensures { λ r. ⌜ r ≡ becomesStored (recordIn self) ⌝ }
     {
-        self.operation == WRITE
+        self.member == self.slot
     }
 
     // The opening record of a slot: a write by its owner with count, value and matrix zero.

@@ -36,14 +36,14 @@ pub fn is_operation(operation: u32) -> bool
     operation == WRITE
 }
 
-// What number 7 refuses: a write to another's slot or a read of one's own.
+// What number 7 refuses: a write to another's slot. Every slot may be read.
 pub fn is_barred(member: u32, slot: u32, operation: u32) -> bool
     ensures { λ r. ⌜ r ≡ barred member slot operation ⌝ }
 {
     if operation == WRITE {
         return member != slot;
     }
-    member == slot
+    false
 }
 
 // Are member and slot one of 1 to n, and is the type one? So a message's fields are judged.

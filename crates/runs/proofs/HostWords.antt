@@ -25,7 +25,8 @@ use Rattle.model.specs.Halves.{hostNumber, submitWords, submitNewest, submitSto
 use Rattle.model.specs.Published.{Id, idOf, ToServer, submit, commit, submitR}
 use Rattle.model.specs.HostClaims.{Half, halfOpened, halfAfter, halfAnswer, halfAnswers, fits, idIn, allFit, eachOnce, noneWaiting}
 use Rattle.model.specs.HostClaims.{onSlot1, sample}
-use Rattle.model.proofs.HostHalf.{fit-parts, half-as-published, sample-holds}
+use Rattle.model.proofs.Ids.{fit-parts}
+use Rattle.model.proofs.HostHalf.{half-as-published, sample-holds}
 use Rattle.laws.proofs.Records.{recordOf-words, within-read, within-zeroRecord}
 use Rattle.laws.proofs.Blocks.{entry-same, stored-same, length-entry}
 use Rattle.laws.proofs.Tables.{length-host}
@@ -216,7 +217,7 @@ strayed-held : Every (MessageHeld 2) strayed
 unfolding strayed sample
 strayed-held =
     tt and tt and tt and on-slot-held 1 write 1 and on-slot-held 2 read 1 and tt and on-slot-held 1 write 2 and tt
-    and on-slot-held 2 read 2 and tt
+    and on-slot-held 2 read 2 and tt and on-slot-held 1 read 3 and tt and tt
 
 strayed-taken : taken 2 strayed ≡ sample
 unfolding taken strayed sample fits idIn idOf inside isOperation barred onSlot1

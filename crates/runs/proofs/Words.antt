@@ -18,7 +18,7 @@ use Rattle.model.specs.RecordWords.{valueOf}
 use Rattle.model.specs.Table.{tableWords}
 use Rattle.model.specs.TableCalls.{openNumber, openWords, boardIn, tableRun}
 use Rattle.runs.specs.Case.{Case, Claim, left, answerTo, found, Holds, tableLeft, foundInWords, HoldsInWords}
-use Rattle.runs.specs.Cases.{p1, p9, refusals, fromOpening}
+use Rattle.runs.specs.Cases.{p1, p9, refusals, writesAlone, fromOpening}
 use Rattle.runs.specs.ReplyCases.{replyCases}
 use Rattle.runs.proofs.Cases.{every-case}
 use Rattle.laws.proofs.Sound.{SoundBoard}
@@ -82,10 +82,16 @@ Opened c = (c .start ≡ opened (c .n)) × Every CallHeld (c .calls)
 
 ruleset held = (zero-held, last-held)
 
--- each of P2 to P8 and P10, of the crashes, of the false programs, of P12
+-- each of P2 to P8 and P10, of the crashes, of the false programs, of own reads, of P12
 all-opened : Every Opened fromOpening
 all-opened =
     (refl, search held depth 40)
+    and (refl, search held depth 40)
+    and (refl, search held depth 40)
+    and (refl, search held depth 40)
+    and (refl, search held depth 40)
+    and (refl, search held depth 40)
+    and (refl, search held depth 40)
     and (refl, search held depth 40)
     and (refl, search held depth 40)
     and (refl, search held depth 40)
@@ -121,10 +127,10 @@ each-in-words : (cs : List Case) → Every Opened cs → Every Holds cs → Ever
 each-in-words [] o h = tt
 each-in-words (c ∷ cs) o h = ((λ l n. case-in-words c (o .0 .0) (o .0 .1) l n (h .0)), each-in-words cs (o .1) (h .1))
 
--- The cases P2 to P8, P10 and P12, and those against false programs, on whatever table of words opening took.
+-- The cases P2 to P8, P10 and P12, of crashes and own reads, and those against false programs, on whatever table of words opening took.
 pub every-case-in-words : Every InWords fromOpening
 every-case-in-words =
     each-in-words fromOpening all-opened (before Holds fromOpening rest (behind Holds p1 (fromOpening ++ rest) every-case))
   where
     rest : List Case
-    rest = (p9 ∷ refusals ∷ []) ++ replyCases
+    rest = (p9 ∷ refusals ∷ writesAlone ∷ []) ++ replyCases

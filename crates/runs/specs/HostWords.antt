@@ -18,7 +18,7 @@ use Rattle.model.specs.Published.{
   submitR,
   commitR,
   serverOpened,
-  line512writes,
+  line512owner,
   serverAnswers,
 }
 use Rattle.model.specs.HostClaims.{fits, idIn, notedAnswers, eachOnce, noneWaiting, sample, sampleAnswers}
@@ -63,7 +63,7 @@ MessageHeld n (commit op) = recordWithin n op ≡ op
 pub record WordsAsPublished (n : ℕ) (messages : List ToServer) : Type 0 where
   pub noted : notedAnswers serverOpened (taken n messages) ≡ callAnswers n (entriesOpened n) messages
   pub printed : eachOnce noneWaiting (taken n messages) ≡ true
-      → serverAnswers line512writes serverOpened (taken n messages) ≡ callAnswers n (entriesOpened n) messages
+      → serverAnswers line512owner serverOpened (taken n messages) ≡ callAnswers n (entriesOpened n) messages
 
 -- The sample of HostClaims.antt on words, behind a write to another's slot, which number 7 refuses.
 unfoldable pub strayed : List ToServer

@@ -1,6 +1,7 @@
 -- Every example holds: both sides are computed. Assumes nothing.
 use mathlib.Core.Path.{refl}
 use Rattle.lists.specs.Every.{Every}
+use Rattle.lists.proofs.Functions.{_and_}
 use Rattle.model.specs.Rows.{zeroRow, zeroMatrix, below, matrixBelow, comparable, larger, withCount}
 use Rattle.model.specs.Records.{zeroValue, opening, zeroRecord, recordWithin}
 use Rattle.model.specs.Kinds.{isOperation, barred, becomesStored}
@@ -47,4 +48,5 @@ unfolding examples zeroRow zeroMatrix below matrixBelow comparable larger withCo
     digits digitsRead limited leadingZero numberOf oneNumber twoNumbers lineOf textOf firstOf callOf caller stepped stepLine stepsFrom
     withByte linesOf boardRun linesRun scriptRun orDash printedLine lastWord printedStep printedSteps boardLine refusedLine printedRun
     scriptOutput
-every-example = (refl, (refl, (refl, (refl, (refl, (refl, (refl, (refl, (refl, (refl, (refl, (refl, (refl, tt)))))))))))))
+every-example =
+    refl and refl and refl and refl and refl and refl and refl and refl and refl and refl and refl and refl and refl and refl and tt

@@ -35,9 +35,12 @@ examples =
     ∷ ("members 1\n\ndeliver\nwrite 1  5\nwrite 1 00\nwrite +1 5\nwrite 1 5 \nwrite 1\t5\ncrash 1\r\n"
     prints "board 1\n1 17 - -\n2 17 - -\n3 17 - -\n4 17 - -\n5 17 - -\n6 17 - -\n7 17 - -\n8 17 - -\n")
     -- the phase is `-` for 4 and 17 alone; 0 is a number
-    ∷ ("members 2\ndeliver 0\ndeliver 3\nread 1 3\nread 1 1\ndeliver 1\nwrite 1 0\nwrite 1 0\ncrash 1\ncrash 1"
-    prints "board 2\n1 4 - -\n2 4 - -\n3 5 0 -\n4 7 0 -\n5 10 0 -\n6 0 1 -\n7 8 1 -\n8 0 1 -\n9 11 1 -\n")
+    ∷ ("members 2\ndeliver 0\ndeliver 3\nread 1 3\nread 1 0\ndeliver 1\nwrite 1 0\nwrite 1 0\ncrash 1\ncrash 1"
+    prints "board 2\n1 4 - -\n2 4 - -\n3 5 0 -\n4 5 0 -\n5 10 0 -\n6 0 1 -\n7 8 1 -\n8 0 1 -\n9 11 1 -\n")
     -- an accepted read of a slot that was never written prints 0
     ∷ ("members 2\nread 1 2\ndeliver 1\ndeliver 1\ndeliver 1\ndeliver 1"
     prints "board 2\n1 0 1 -\n2 0 2 -\n3 0 3 -\n4 0 4 -\n5 0 0 0\n")
+    -- a member reads its own slot (document 02, (a)), here the only one
+    ∷ ("members 1\nwrite 1 9\ndeliver 1\ndeliver 1\ndeliver 1\ndeliver 1\nread 1 1\ndeliver 1\ndeliver 1\ndeliver 1\ndeliver 1"
+    prints "board 1\n1 0 1 -\n2 0 2 -\n3 0 3 -\n4 0 4 -\n5 0 0 -\n6 0 1 -\n7 0 2 -\n8 0 3 -\n9 0 4 -\n10 0 0 9\n")
     ∷ []

@@ -1,5 +1,6 @@
 -- `open_entry` meets its contract: it accepts the opening record, which becomes stored.
 use borrow.Author.Needs.{needs}
+use borrow.Author.Tests.{eq-eqb}
 use Prim.Native.Nat.{ℕ}
 use mathlib.Core.Path.{_≡_, refl}
 use mathlib.Core.Bool.{true}
@@ -12,7 +13,7 @@ use Rattle.host.proofs.entry.open_entry.Tie as tie
 
 becomes-stored : (slot : ℕ) → becomesStored (opening slot) ≡ true
 unfolding becomesStored opening
-becomes-stored slot = refl
+becomes-stored slot = eq-eqb slot slot refl
 
 returns : tie.Need-returns
 unfolding openingEntry
