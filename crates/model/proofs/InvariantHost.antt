@@ -8,7 +8,7 @@ use mathlib.Core.List.{List, _∷_}
 use lib.Dec.{eqb}
 use borrow.Author.Tests.{eqb-true, eqb-false, eq-eqb, ne-eqb}
 use Rattle.lists.specs.Functions.{put}
-use Rattle.lists.proofs.Functions.{on, first, second, apart, put-at, put-off, put-same, put-all, put-both, inside-low}
+use Rattle.lists.proofs.Functions.{on, both, first, second, apart, put-at, put-off, put-same, put-all, put-both, inside-low}
 use Rattle.model.specs.Rows.{Row}
 use Rattle.model.specs.Records.{Value, Rec, write}
 use Rattle.model.specs.Kinds.{becomesStored}
@@ -89,8 +89,8 @@ module _ {n : ℕ} {b : Board} {ref : Reference} (inv : Inv n b ref) (i : ℕ) (
   entry₁ = submitted (b .host r₁) i (m₁ .own r₁)
 
   -- the newest records stay
-  newest-kept : (k : ℕ) → put (b .host) r₁ entry₁ k .newest ≡ b .host k .newest
-  unfolding submitted
+  newest-kept : (k : ℕ) → submitTaken b i .host k .newest ≡ b .host k .newest
+  unfolding submitTaken submitted
   newest-kept = put-all (λ k x. x .newest ≡ b .host k .newest) (b .host) r₁ entry₁ refl (λ k d. refl)
 
   submit-self : MemberInv (inv .P) n i (answered m₁ (b .host r₁ .newest) (b .stored r₁)) (refMoved (ref .members i) 2) entry₁ (b .stored r₁)
@@ -101,7 +101,7 @@ module _ {n : ℕ} {b : Board} {ref : Reference} (inv : Inv n b ref) (i : ℕ) (
       let slot = inv .slots (m₁ .slot) in
       stepped 2 (m₁ .halt) (b .host r₁ .newest) (b .stored r₁) (ref .members i .noted) entry₁ (b .stored r₁) (λ j a p. p) old
       (omega arith) (omega arith) (omega arith)
-      (λ q. old .fresh e ∙ rw (eq-eqb i i refl, eq-eqb (m₁ .own r₁) (m₁ .own r₁) refl))
+      (λ q. old .fresh e ∙ sym (ap not (both (eq-eqb i i refl) (eq-eqb (m₁ .own r₁) (m₁ .own r₁) refl))))
       (λ q. record {
         firstTops = inv .newest r₁;
         knownBelow = inv .top r₁ (m₁ .known r₁) (old .knownTops r₁);
@@ -168,7 +168,15 @@ module _ {n : ℕ} {b : Board} {ref : Reference} (inv : Inv n b ref) (i : ℕ) (
         (rw (put-at (b .host) r₁ entry₁) submit-self) submit-other;
   }
 
--- A commit accepted: the slot has a new top row.
+-- A commit accepted: the slot has a new top row. By the slot's owner its record becomes the stored one, and no other's does.
+
+owned : (c : Rec) → c .member ≡ c .slot → becomesStored c ≡ true
+unfolding becomesStored
+owned c own = eq-eqb (c .member) (c .slot) own
+
+not-owned : (c : Rec) → (c .member ≡ c .slot → ⊥) → becomesStored c ≡ false
+unfolding becomesStored
+not-owned c other = ne-eqb (c .member) (c .slot) other
 
 module _ {n : ℕ} {b : Board} {ref : Reference} (inv : Inv n b ref) (i : ℕ) (e : b .members i .phase ≡ 3)
     (won : marked (b .host (b .members i .slot)) i (b .members i .own (b .members i .slot)) ≡ true) where
@@ -192,6 +200,10 @@ module _ {n : ℕ} {b : Board} {ref : Reference} (inv : Inv n b ref) (i : ℕ) (
 
   abbrev row₃ : Row
   row₃ = b .members i .first .matrix (b .members i .slot)
+
+  won-commit : wins (b .host r₃) sent ≡ true
+  unfolding wins sentRecord
+  won-commit = won
 
   -- the winner is not overtaken, so its record extends what the host has
   not-overtaken : ref .members i .overtaken ≡ false
@@ -397,9 +409,10 @@ module _ {n : ℕ} {b : Board} {ref : Reference} (inv : Inv n b ref) (i : ℕ) (
   read-carries p own = run₃ .reads (eqb-false (m₃ .operation) write p) ∙ last-shown ∙ ap (ref .values) own
 
   pub accept-keeps : Inv n (commitTaken b i) (refAccept ref i)
-  unfolding commitTaken wins entryAfter storedAfter becomesStored sentRecord
-  accept-keeps = rw won (on (eqb (m₃ .operation) write)
-      (λ p. rw (eq-eqb i r₃ (sym (run₃ .writes (eqb-true (m₃ .operation) write p)))) (write-keeps p))
+  unfolding commitTaken entryAfter storedAfter sentRecord
+  accept-keeps = rw won-commit (on (eqb (m₃ .operation) write)
+      (λ p. rw (owned sent (sym (run₃ .writes (eqb-true (m₃ .operation) write p)))) (write-keeps p))
       (λ p. on (eqb i r₃)
-      (λ o. let own = eqb-true i r₃ o in rw o (read-keeps sent (slot-owned own (ref .values r₃) (read-carries p own)) p))
-      (λ o. rw o (read-keeps (b .stored r₃) (slot-others (eqb-false i r₃ o)) p))))
+      (λ o. let own = eqb-true i r₃ o in
+      rw (owned sent own) (read-keeps sent (slot-owned own (ref .values r₃) (read-carries p own)) p))
+      (λ o. let other = eqb-false i r₃ o in rw (not-owned sent other) (read-keeps (b .stored r₃) (slot-others other) p))))

@@ -123,7 +123,7 @@ pub record Tested (i r t : ℕ) (refused : Bool) : Type 0 where
 
 barred-tested : (i r t : ℕ) → Barred i r t → Tested i r t true
 unfolding isOperation barred
-barred-tested i r t b = record { operation = rw (b .0); seven = rw (b .0, ne-eqb i r (b .1)) }
+barred-tested i r t b = record { operation = rw (b .0); seven = simp (b .0, ne-eqb i r (b .1)) }
 
 pub allowed-tested : (i r t : ℕ) → Allowed i r t → Tested i r t false
 unfolding isOperation barred
@@ -183,16 +183,16 @@ module _ (kind : Kind) (n phase crashed count i r t : ℕ) where
   begin-gives =
       let bars = barred-tested i r t in
       let allows = allowed-tested i r t in
-      (λ g. rw (not-inside n i g))
-      and (λ g. rw (is-inside (g .0), not-inside n r (g .1)))
-      and (λ g. rw (is-inside (g .0), is-inside (g .1), not-operation t (g .2) (g .3)))
-      and (λ g. rw (is-inside (g .0), is-inside (g .1), bars (g .2) .operation, bars (g .2) .seven))
+      (λ g. simp (not-inside n i g))
+      and (λ g. simp (is-inside (g .0), not-inside n r (g .1)))
+      and (λ g. simp (is-inside (g .0), is-inside (g .1), not-operation t (g .2) (g .3)))
+      and (λ g. simp (is-inside (g .0), is-inside (g .1), bars (g .2) .operation, bars (g .2) .seven))
       and (λ g. let a = allows (g .2) in
-      rw (is-inside (g .0), is-inside (g .1), a .operation, a .seven, is-busy phase crashed (g .3)))
+      simp (is-inside (g .0), is-inside (g .1), a .operation, a .seven, is-busy phase crashed (g .3)))
       and (λ g. let a = allows (g .2) in
-      rw (is-inside (g .0), is-inside (g .1), a .operation, a .seven, g .3, g .4, le-leb (kind .limit) count (g .5)))
+      simp (is-inside (g .0), is-inside (g .1), a .operation, a .seven, g .3, g .4, le-leb (kind .limit) count (g .5)))
       and (λ g. let a = allows (g .2) in
-      rw (is-inside (g .0), is-inside (g .1), a .operation, a .seven, g .3, g .4, lt-leb (kind .limit) count (g .5)))
+      simp (is-inside (g .0), is-inside (g .1), a .operation, a .seven, g .3, g .4, lt-leb (kind .limit) count (g .5)))
       and tt
 
   begin-exactly : Exactly (beginAnswer kind n phase crashed count i r t) begin-rows

@@ -331,8 +331,12 @@ now-taken : (p : ℕ → ℕ) (w : Watch) (i : ℕ) (s : List Submit) → Taken 
     (withRunning w i (submittedOp (w .steps + 1) (w .running i)) s)
     (submitOf (w .steps + 1) i (w .running i))
 unfolding submittedOp submitOf
-now-taken p w i s = rw (put-at p i 2, put-at (w .running) i (submittedOp (w .steps + 1) (w .running i)))
-    (runs (omega arith) (omega arith) (refl, refl))
+now-taken p w i s =
+    let member = submitOf (w .steps + 1) i (w .running i) .member in
+    let o = submittedOp (w .steps + 1) (w .running i) in
+    let phase : put p i 2 member ≡ 2 = put-at p i 2 in
+    let running : put (w .running) i o member ≡ o = put-at (w .running) i o in
+    rw (phase, running) (runs (omega arith) (omega arith) (refl, refl))
 
 pub submits-after : {look : ℕ → Option Step} {p q : ℕ → ℕ} {w x : Watch} → Moved look p w q x → Places look p w
     → Every (Taken p w) (w .submits) → Every (Taken q x) (x .submits)
