@@ -686,7 +686,7 @@ fn step_host_commit(entry: &mut Entry, record: &Record) -> u32 {
         return ABORTED;
     }
     entry.newest = record.clone();
-    // Of the owner's read too: check 25 asks for the owner's count at the newest record.
+    // The owner's read too: it raises the owner's count, which check 25 wants equal in both.
     if record.member == record.slot {
         entry.stored = record.clone();
     }

@@ -499,6 +499,12 @@ fn main() {
     }
 
     println!("seed {} rounds {} fixed part {:.1} s, all {:.1} s", seed, rounds, fixed.as_secs_f64(), start.elapsed().as_secs_f64());
+    report(&tally);
+    println!("all agreed");
+}
+
+/// Prints what came up. The work must not be empty.
+fn report(tally: &Tally) {
     println!("calls {} words compared {} sheets returned {}", tally.calls, tally.words, tally.returned);
     println!("open by answer    {:?}", &tally.opens[..12]);
     println!("begin by answer   {:?}", &tally.begins[..12]);
@@ -507,7 +513,6 @@ fn main() {
     println!("halts 22 to 27    {:?}", &tally.halts[22..]);
     println!("delivers of own reads by phase after {:?}", tally.own_reads);
     println!("messages {} by answer 0, 1, 12 to 15: {} {} {:?}", tally.messages, tally.checks[0], tally.checks[1], &tally.checks[12..16]);
-    // The work must not be empty.
     let wanted: Vec<(&str, &[u64], Vec<usize>)> = vec![
         ("open", &tally.opens, vec![0, 1, 2]),
         ("begin", &tally.begins, vec![0, 2, 3, 4, 5, 6, 7, 8, 9]),
@@ -524,5 +529,4 @@ fn main() {
             }
         }
     }
-    println!("all agreed");
 }

@@ -87,9 +87,49 @@ fn line_of(call: &Call) -> String {
     }
 }
 
+fn read(member: u32, slot: u32) -> Call {
+    Call::Begin { member, slot, op_type: 1, sheet: [0; 8] }
+}
+
+fn write(member: u32, value: u32) -> Call {
+    Call::Begin { member, slot: member, op_type: 2, sheet: [0, 0, 0, 0, 0, 0, 0, value] }
+}
+
 /// A read, or a write where the slot is the member's own.
 fn begin(member: u32, slot: u32, value: u32) -> Call {
-    Call::Begin { member, slot, op_type: if member == slot { 2 } else { 1 }, sheet: [0, 0, 0, 0, 0, 0, 0, value] }
+    if member == slot {
+        write(member, value)
+    } else {
+        read(member, slot)
+    }
+}
+
+/// The same, but that the owner reads as often as it writes.
+fn any_begin(rng: &mut Rng, member: u32, slot: u32) -> Call {
+    if rng.once_in(2) {
+        read(member, slot)
+    } else {
+        begin(member, slot, rng.word())
+    }
+}
+
+fn deliver(member: u32) -> Call {
+    Call::Deliver { member }
+}
+
+fn member_and_slot(begin: &Call) -> (u32, u32) {
+    match begin {
+        Call::Begin { member, slot, .. } => (*member, *slot),
+        _ => panic!("not a begin"),
+    }
+}
+
+/// An operation with all its delivers, nobody in between.
+fn whole(begin: Call) -> Vec<Call> {
+    let (member, _) = member_and_slot(&begin);
+    let mut calls = vec![begin];
+    calls.extend(vec![deliver(member); 4]);
+    calls
 }
 
 fn script_of(n: u32, calls: &[Call]) -> Vec<u8> {
@@ -190,101 +230,153 @@ fn step_lines(folder: &mut Folder) {
     }
 }
 
-fn example_calls() -> Vec<Call> {
-    let mut calls = vec![begin(1, 1, 77)];
-    calls.extend(vec![Call::Deliver { member: 1 }; 4]);
-    calls.push(begin(2, 1, 0));
-    calls.extend(vec![Call::Deliver { member: 2 }; 4]);
-    calls
-}
-
 fn known_runs(folder: &mut Folder) {
-    let text = script_of(2, &example_calls());
+    let text = script_of(2, &[whole(write(1, 77)), whole(read(2, 1))].concat());
     folder.put("example", &text);
     folder.put("example_bare", &text[..text.len() - 1]);
     // P6 to P8.
-    let d = |member: u32| Call::Deliver { member };
-    let mut calls = vec![begin(1, 3, 0), begin(2, 3, 0), d(1), d(2), d(1), d(2), d(1), d(2), d(1), d(2)];
+    let mut calls = vec![read(1, 3), read(2, 3)];
+    for _ in 0..4 {
+        calls.extend([deliver(1), deliver(2)]);
+    }
     for (member, slot) in [(2, 2), (1, 2), (1, 3)] {
-        calls.push(begin(member, slot, 8));
-        calls.extend(vec![d(member); 4]);
+        calls.extend(whole(begin(member, slot, 8)));
     }
     folder.put("p6_to_p8", &script_of(3, &calls));
-    // A crash in each phase, with and without a rival, and every call after it.
-    for rival in [false, true] {
-        for write in [false, true] {
-            for steps in 0..=5u32 {
-                for crash_again in [false, true] {
-                    let slot = if write { 1 } else { 2 };
-                    let mut calls = vec![begin(2, 2, 40)];
-                    calls.extend(vec![d(2); 4]);
-                    if steps > 0 {
-                        calls.push(begin(1, slot, 41));
-                    }
-                    for step in 1..steps {
-                        calls.push(d(1));
-                        if rival && step == 1 {
-                            calls.push(begin(3, slot, 0));
-                            calls.push(d(3));
-                        }
-                    }
-                    calls.push(Call::Crash { member: 1 });
-                    if crash_again {
-                        calls.push(Call::Crash { member: 1 });
-                    }
-                    calls.push(begin(1, slot, 42));
-                    calls.extend(vec![d(1); 3]);
-                    calls.extend(vec![d(3); 4]);
-                    for _ in 0..2 {
-                        calls.push(begin(3, slot, 0));
-                        calls.extend(vec![d(3); 4]);
-                    }
-                    calls.push(begin(2, slot, 43));
-                    calls.extend(vec![d(2); 4]);
-                    calls.push(Call::Crash { member: 1 });
-                    folder.put("crash", &script_of(3, &calls));
-                }
+    for n in 1..=12 {
+        for slot in [1, n] {
+            folder.put(&format!("crowd_{}", n), &script_of(n, &crowd(n, slot)));
+        }
+        folder.put(&format!("round_{}", n), &script_of(n, &all_round(n)));
+    }
+}
+
+/// All members at one slot, step by step, forwards and backwards. In every
+/// third round the owner reads.
+fn crowd(n: u32, slot: u32) -> Vec<Call> {
+    let mut calls = Vec::new();
+    for round in 0..6 {
+        let order: Vec<u32> = if round % 2 == 0 { (1..=n).collect() } else { (1..=n).rev().collect() };
+        let begins = |member: u32, value: u32| if round % 3 == 2 { read(member, slot) } else { begin(member, slot, value) };
+        for member in &order {
+            calls.push(begins(*member, 1000 * round + member));
+        }
+        for _ in 0..4 {
+            calls.extend(order.iter().rev().map(|member| deliver(*member)));
+        }
+        // Nobody in the way.
+        for member in &order {
+            calls.extend(whole(begins(*member, 2000 * round + member)));
+        }
+    }
+    calls
+}
+
+/// Each member goes round all slots, so that matrices fill up; in the second
+/// of three times it reads its own.
+fn all_round(n: u32) -> Vec<Call> {
+    let mut calls = Vec::new();
+    for round in 0..3 {
+        for shift in 0..n {
+            for member in 1..=n {
+                let slot = (member + shift - 1) % n + 1;
+                calls.push(if round == 1 { read(member, slot) } else { begin(member, slot, 100 * round + member) });
+            }
+            for step in 0..4 {
+                calls.extend((1..=n).map(|member| deliver((member + step) % n + 1)));
             }
         }
     }
-    // All members at one slot, step by step, forwards and backwards, for every n.
-    for n in 1..=12 {
-        for slot in [1, n] {
-            let mut calls = Vec::new();
-            for round in 0..6 {
-                let order: Vec<u32> = if round % 2 == 0 { (1..=n).collect() } else { (1..=n).rev().collect() };
-                for member in &order {
-                    calls.push(begin(*member, slot, 1000 * round + member));
+    calls
+}
+
+/// Member 1 of 3 crashes in each phase, with and without a rival: reading
+/// another's slot, writing its own, reading its own before and after a write.
+/// Then every call after it.
+fn crashes(folder: &mut Folder) {
+    for (begins, written) in [(read(1, 2), false), (write(1, 41), false), (read(1, 1), false), (read(1, 1), true)] {
+        for steps in 0..=5 {
+            for (rival, crash_again) in [(false, false), (false, true), (true, false), (true, true)] {
+                let mut calls = whole(write(2, 40));
+                if written {
+                    calls.extend(whole(write(1, 39)));
                 }
-                for _ in 0..4 {
-                    for member in order.iter().rev() {
-                        calls.push(d(*member));
-                    }
+                calls.extend(crash_after(&begins, steps, rival));
+                if crash_again {
+                    calls.push(Call::Crash { member: 1 });
                 }
-                // Nobody in the way.
-                for member in &order {
-                    calls.push(begin(*member, slot, 2000 * round + member));
-                    calls.extend(vec![d(*member); 4]);
-                }
-            }
-            folder.put(&format!("crowd_{}", n), &script_of(n, &calls));
-        }
-        // Each member goes round all slots, so that matrices fill up.
-        let mut calls = Vec::new();
-        for round in 0..3 {
-            for shift in 0..n {
-                for member in 1..=n {
-                    let slot = (member + shift - 1) % n + 1;
-                    calls.push(begin(member, slot, 100 * round + member));
-                }
-                for step in 0..4 {
-                    for member in 1..=n {
-                        calls.push(d((member + step) % n + 1));
-                    }
-                }
+                calls.extend(after_crash(&begins));
+                folder.put("crash", &script_of(3, &calls));
             }
         }
-        folder.put(&format!("round_{}", n), &script_of(n, &calls));
+    }
+}
+
+/// Member 1 makes so many steps of its operation and crashes; the rival's
+/// submit comes after its own.
+fn crash_after(begins: &Call, steps: usize, rival: bool) -> Vec<Call> {
+    let (_, slot) = member_and_slot(begins);
+    let mut calls = whole(begins.clone())[..steps].to_vec();
+    if rival && steps > 1 {
+        calls.splice(2..2, [read(3, slot), deliver(3)]);
+    }
+    calls.push(Call::Crash { member: 1 });
+    calls
+}
+
+/// The crashed member's calls, then the others' on the same slot.
+fn after_crash(begins: &Call) -> Vec<Call> {
+    let (_, slot) = member_and_slot(begins);
+    let mut calls = vec![begins.clone()];
+    calls.extend(vec![deliver(1); 3]);
+    calls.extend(vec![deliver(3); 4]);
+    for _ in 0..2 {
+        calls.extend(whole(read(3, slot)));
+    }
+    calls.extend(whole(begin(2, slot, 43)));
+    calls.push(Call::Crash { member: 1 });
+    calls
+}
+
+/// Reads of the own slot, first unwritten, then after writes; each is
+/// followed by an own read, or by all the others' reads of the slot, or by both.
+fn own_reads(folder: &mut Folder) {
+    for n in [1, 2, 3, 12] {
+        let by_owner = whole(read(1, 1));
+        let by_others: Vec<Call> = (2..=n).flat_map(|member| whole(read(member, 1))).collect();
+        let mut calls = [&by_owner[..], &by_owner, &by_others].concat();
+        for value in [7, 4294967295, 0] {
+            calls.extend(whole(write(1, value)));
+            for reads in [&by_owner, &by_others, &by_owner, &by_owner, &by_others, &by_others] {
+                calls.extend_from_slice(reads);
+            }
+        }
+        folder.put(&format!("own_reads_{}", n), &script_of(n, &calls));
+    }
+    // Of a busy member, of a crashed one, and where there is no such member.
+    folder.put("own_reads_refused", b"members 2\nread 1 1\nread 1 1\nwrite 1 5\ncrash 1\nread 1 1\nread 2 2\nread 3 3\nread 0 0\n");
+}
+
+/// Two operations cross, the second's submit coming after each step of the
+/// first; one of the two at least is an own read. Then both members and a
+/// third read the slot.
+fn own_reads_crossing(folder: &mut Folder) {
+    let pairs = [(read(1, 1), read(2, 1)), (read(2, 1), read(1, 1)), (read(1, 1), read(2, 2)), (read(1, 1), read(2, 3))];
+    for (first, second) in &pairs {
+        for written in [false, true] {
+            for steps in 1..=4 {
+                let mut calls = if written { whole(write(1, 60)) } else { Vec::new() };
+                let (one, other) = (whole(first.clone()), whole(second.clone()));
+                calls.extend_from_slice(&one[..steps]);
+                calls.extend_from_slice(&other[..2]);
+                calls.extend_from_slice(&one[steps..]);
+                calls.extend_from_slice(&other[2..]);
+                for member in [2, 1, 3] {
+                    calls.extend(whole(read(member, 1)));
+                }
+                folder.put("own_read_crossing", &script_of(3, &calls));
+            }
+        }
     }
 }
 
@@ -369,16 +461,17 @@ fn random_script(rng: &mut Rng, n: u32, steps: u32, slots: u32, crash_once_in: u
             Call::Crash { member }
         } else if rng.once_in(30) {
             // Out of turn or out of range.
-            let other = rng.between(0, n + 1);
+            let (other, slot) = (rng.between(0, n + 1), rng.between(0, n + 1));
             if rng.once_in(2) {
-                Call::Deliver { member: other }
+                deliver(other)
             } else {
-                begin(other, rng.between(0, n + 1), rng.word())
+                any_begin(rng, other, slot)
             }
         } else if book.phase(member) == 0 {
-            begin(member, rng.between(1, slots.min(n)), rng.word())
+            let slot = rng.between(1, slots.min(n));
+            any_begin(rng, member, slot)
         } else {
-            Call::Deliver { member }
+            deliver(member)
         };
         book.call(&call);
         text.extend_from_slice(line_of(&call).as_bytes());
@@ -425,6 +518,9 @@ fn main() {
     first_lines(&mut folder);
     step_lines(&mut folder);
     known_runs(&mut folder);
+    crashes(&mut folder);
+    own_reads(&mut folder);
+    own_reads_crossing(&mut folder);
     limits(&mut folder, &mut rng);
     random_scripts(&mut folder, &mut rng, random);
     println!("seed {} scripts {}", seed, folder.made);

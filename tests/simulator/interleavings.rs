@@ -289,7 +289,7 @@ fn plans() -> Vec<Plan> {
         plan("mixed slots", [(1, 1, w), (2, 1, r), (3, 2, r)], OF_THREE, true),
         plan("own read on one slot", [(1, 3, r), (2, 3, r), (3, 3, r)], OF_THREE, true),
         plan("own read, mixed slots", [(1, 1, r), (2, 1, r), (3, 2, r)], OF_THREE, false),
-        plan("own reads, another's slot", [(1, 1, r), (2, 2, r), (3, 1, r)], OF_THREE, false),
+        plan("own reads of two slots", [(1, 1, r), (2, 2, r), (3, 1, r)], OF_THREE, false),
         plan("own write, own read", [(1, 1, w), (1, 1, r), (2, 1, r)], OF_TWO, true),
         plan("own read, own write", [(1, 1, r), (1, 1, w), (2, 1, r)], OF_TWO, true),
         plan("own read twice", [(1, 1, r), (1, 1, r), (2, 1, r)], OF_TWO, true),

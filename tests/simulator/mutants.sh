@@ -1,7 +1,7 @@
 #!/bin/bash
 # Usage: mutants.sh OUTDIR   (after build.sh OUTDIR)
 # Makes wrong stub libraries and wrong simulators, one fault each, and sees
-# that capi, interleavings, halves or compare_scripts.sh notices every one.
+# that capi, interleavings, halves, compare_scripts.sh or selftest notices every one.
 if [ $# -ne 1 ] || [ ! -x "$1/simulator" ]; then
     echo "usage: mutants.sh OUTDIR, after build.sh OUTDIR"
     exit 2
@@ -49,13 +49,32 @@ library() { # name, file, perl change, "too" where interleavings is asked in any
     verdict "$1" "$([ -n "$by" ] && echo 1)" "$by: $(grep -h DIFF "$work/log" | head -1 | cut -c1-110)"
 }
 
-half() { # name, file, perl change: what capi and interleavings cannot notice
-    spoil "$2" "$3"
-    shared_library "$work/source"
+ask_halves() { # name, of the wrong library that stands there
     if "$shared/halves" 0 > "$work/log" 2>&1; then
         verdict "$1" 0
     else
         verdict "$1" 1 "$(grep -h DIFF "$work/log" | head -1 | cut -c1-180)"
+    fi
+}
+
+half() { # name, file, perl change: what capi and interleavings cannot notice
+    spoil "$2" "$3"
+    shared_library "$work/source"
+    ask_halves "$1"
+}
+
+everywhere() { # name, perl change to what board and halves share in board.rs, "too": each is asked
+    library "$1" board.rs "$2" "$3"
+    ask_halves "$1, in the halves"
+}
+
+alone() { # name, file, perl change: what the simulator must notice by itself
+    spoil "$2" "$3"
+    rustc -A warnings -O --edition 2021 "$work/source/selftest.rs" -o "$work/wrong" || exit 2
+    if "$work/wrong" 1 3 > "$work/log" 2>&1; then
+        verdict "$1" 0
+    else
+        verdict "$1" 1 "$(grep -ho 'panicked at .*' "$work/log" | head -1)"
     fi
 }
 
@@ -83,8 +102,7 @@ done
 library "an overtaken submit clears the mark" board.rs 's/entry.submit_member = member;/entry.submit_member = if entry.submit_member != 0 { 0 } else { member };/' too
 library "the first submit keeps the mark" board.rs 's/entry.submit_member = member;\n    entry.submit_count = count;/if entry.submit_member == 0 { entry.submit_member = member; entry.submit_count = count; }/' too
 library "mark not cleared after an accepted commit" board.rs 's/entry.submit_member = 0;\n    entry.submit_count = 0;\n    ACCEPTED/ACCEPTED/'
-library "a read is stored" board.rs 's/if record.op_type == WRITE \{\n        entry.stored/if true {\n        entry.stored/' too
-library "a write is not stored" board.rs 's/if record.op_type == WRITE \{\n        entry.stored/if false {\n        entry.stored/' too
+library "nothing is stored" board.rs 's/if record.member == record.slot \{/if false {/' too
 library "an aborted matrix is taken over" board.rs 's/(fn step_outcome.*?let mut returned = None;)/$1 block.known = block.first.matrix.clone();/s' too
 library "no check 22" board.rs 's/if checks.fails_22\(\)/if false/'
 library "check 22 also for the member itself" board.rs 's/k != self.m && //'
@@ -202,6 +220,70 @@ half "pairs are filled at a wrong length" calls_sim.rs 's/(pairs.len\(\) != 1 \{
 half "two words for the pairs are taken" calls_sim.rs 's/pairs.len\(\) != 1/pairs.is_empty()/'
 half "no word for the pairs is taken" calls_sim.rs 's/pairs.len\(\) != 1/pairs.len() > 1/; s/(pairs.len\(\) > 1 \{.*?\n        \}\n)/$1        let mut one = [0]; let pairs = if pairs.is_empty() { \&mut one[..] } else { pairs };\n/s'
 
+# A member reads its own slot: what becomes stored.
+owner='if record.member == record.slot \{'
+by_type='s/'$owner'/if record.op_type == WRITE {/'
+all_stored='s/'$owner'/if true {/'
+own_record='record.member == record.slot \&\& record.op_type == READ'
+everywhere "an owner's read is not stored" "$by_type" too
+everywhere "another's read is stored too" "$all_stored" too
+everywhere "an owner's write is not stored" "s/$owner/if $own_record {/" too
+everywhere "reads are stored, and writes are not" "s/$owner/if record.op_type == READ {/" too
+everywhere "the owner is who made the stored record" "s/$owner/if record.member == entry.stored.member {/"
+everywhere "what is stored is a write" 's/(entry.stored = )record.clone\(\)/$1Record { op_type: WRITE, ..record.clone() }/'
+everywhere "an owner's read leaves the stored sheet" \
+    's/(entry.stored = record.clone\(\);)/let sheet = entry.stored.sheet; $1 if record.op_type == READ { entry.stored.sheet = sheet; }/'
+everywhere "of an owner's read the matrix alone is stored" \
+    's/(entry.stored) = record.clone\(\);/if record.op_type == READ { $1.matrix = record.matrix.clone(); } else { $1 = record.clone(); }/'
+everywhere "an owner's read is not the newest record" "s/(entry.newest = record.clone\\(\\);)/if !($own_record) { \$1 }/" too
+everywhere "an owner's read leaves its mark" "s/(entry.submit_member = 0;\\n *entry.submit_count = 0;)/if !($own_record) { \$1 }/"
+
+# Whom it aborts, and who aborts it.
+never_aborted="s/if (entry.submit_member != record.member \\|\\| .*?) \\{/if !($own_record) \\&\\& (\$1) {/"
+own_submit='submit.op_type == READ \&\& submit.member == submit.slot'
+own='block.op_type == READ \&\& member == block.slot'
+kept='before.submit_member != 0 { entry = before; }'
+aborts_nobody="s/(let .newest, stored. = step_host_submit.*?;)/let before = entry.clone(); \$1 if $own \\&\\& $kept/"
+everywhere "an own read is never aborted" "$never_aborted" too
+library "an own read aborts nobody" board.rs "$aborts_nobody" too
+half "an own read aborts nobody, in the host half" board.rs \
+    "s/(let reply = step_host_submit.*?;)/let before = entry.clone(); \$1 if $own_submit \\&\\& $kept/"
+
+# What it carries, and what checks it.
+zeros="s/(step_begin\\(&mut block.*?\\);)/\$1 if $own { block.pending_sheet = [0; 8]; }/g"
+everywhere "an own read carries zeros" "$zeros" too
+everywhere "an own read carries the given sheet" "s/(step_begin\\(&mut block.*?\\);)/\$1 if $own { block.pending_sheet = *sheet; }/g" too
+everywhere "an own read carries the stored sheet" "s/(sheet: )(block.pending_sheet),/\$1if $own { stored.sheet } else { \$2 },/"
+for check in checks.fails_22 checks.fails_23 stored.member checks.fails_25 checks.fails_26 checks.fails_27; do
+    everywhere "an own read is not checked by $check" "s/if ($check.*?) \\{/if !($own) \\&\\& (\$1) {/"
+done
+everywhere "24 at a stored read" 's/(stored.member != block.slot)/$1 || stored.op_type == READ/' too
+
+# What it returns and leaves; the record under way says whose read it is.
+own_sent='block.op_type == READ \&\& block.first.member == block.slot'
+carried="s/Some\\((block.second.sheet)\\)/Some(if $own_sent { block.first.sheet } else { \$1 })/"
+everywhere "an own read returns what it carries" "$carried"
+everywhere "an own read returns the last own sheet" "s/Some\\((block.second.sheet)\\)/Some(if $own_sent { block.last_sheet } else { \$1 })/"
+everywhere "an own read returns nothing" "s/(returned = Some\\(.*?\\);)/if !($own_sent) { \$1 }/" too
+for sheet in block.second.sheet block.pending_sheet; do
+    everywhere "an own read makes $sheet the last own" "s/(returned = Some\\(.*?\\);)/\$1 if $own_sent { block.last_sheet = $sheet; }/"
+done
+everywhere "an own read is no accepted count" "s/(block.accepted_counts\\[r\\] = .*?;)/if !($own_sent) { \$1 }/" too
+everywhere "an own read's matrix is not taken over" "s/(block.known = block.first.matrix.clone\\(\\);)/if !($own_sent) { \$1 }/"
+
+# Number 7, for an own read still and for a write no more, at each of its places.
+for place in 'library begin' 'half half_begin' 'half host_submit' 'half host_commit'; do
+    read -r driver function <<< "$place"
+    grounds="(pub fn $function\\(.*?let ground = )(operation_grounds\\(n, (.*?), (.*?), (.*?)\\));"
+    still="match \$2 { 0 if \$5 == READ \\&\\& \$3 == \$4 => 7, other => other }"
+    "$driver" "7 for an own read in $function" board.rs "s/$grounds/\$1$still;/s"
+    "$driver" "no 7 in $function" board.rs "s/$grounds/\$1match \$2 { 7 => 0, other => other };/s"
+done
+refused=' \|\| not_allowed\(member, slot, op_type\)'
+everywhere "3 at a running own read" "s/($refused)/\$1 || (op_type == READ \\&\\& slot == member)/"
+everywhere "3 at an own read in phase 5" "s/($refused)/\$1 || (phase == 5 \\&\\& op_type == READ \\&\\& slot == member)/"
+everywhere "no 3 at a running write to another's slot" "s/$refused//"
+
 [ -d "$out/scripts" ] || "$out/gen_scripts" "$out/scripts" 1 100
 program "leading zeros taken" script.rs 's/\(piece.len\(\) > 1 && piece\[0\] == b.0.\)/false/'
 program "0 refused" script.rs 's/piece.len\(\) > 1 && piece/piece.len() > 0 \&\& piece/'
@@ -211,6 +293,19 @@ program "one step more" script.rs 's/1_000_000/1_000_001/'
 program "empty lines are no steps" script.rs 's/step \+= 1;/if line.is_empty() { continue; } step += 1;/'
 program "phase shown at 17" script.rs 's/answer == 4 \|\| answer == 17/answer == 4/; s/None => \(17, 0\)/None => (17, 1)/'
 program "1 before 17" script.rs 's/if value > u32::MAX as u64 \{\n            return None/if value > u32::MAX as u64 {\n            return Some(u32::MAX)/'
+
+# Own reads in scripts, and in the simulator beside nothing but what was worked out by hand.
+refuses='s/(fn not_allowed.*?)op_type == WRITE && slot != member/$1(op_type == WRITE) != (slot == member)/s'
+for fault in by_type all_stored never_aborted aborts_nobody zeros refuses; do
+    program "own reads in scripts: $fault" board.rs "${!fault}"
+    alone "own reads alone: $fault" board.rs "${!fault}"
+done
+alone "own reads alone: carried" board.rs "$carried"
+alone "the book refuses own reads" reference.rs 's/op_type == WRITE && member != slot/(op_type == WRITE) != (member == slot)/'
+alone "the book takes any write" reference.rs 's/op_type == WRITE && member != slot/false/'
+not_own='(op.op_type == WRITE || member != op.slot)'
+alone "own reads are not in the book's history" reference.rs "s/(self.history.push\\(.*?\\);)/if $not_own { \$1 }/s"
+alone "own reads overtake nobody in the book" reference.rs "s/(let between = )(.*?);/\$1$not_own \\&\\& (\$2);/"
 rm -rf "$work" "$shared"
 echo "noticed $noticed, missed $missed"
 [ $missed -eq 0 ]

@@ -5,6 +5,7 @@
 mod board;
 mod message_cases;
 mod messages;
+mod own_reads;
 mod random;
 mod reference;
 mod replies;
@@ -13,8 +14,8 @@ mod script;
 
 use board::*;
 use messages::Message;
-use reference::{Book, Call};
-use random::{near_reply, random_sheet, NearReply};
+use reference::{Book, Call, Line};
+use random::{allowed_type, near_reply, random_sheet, NearReply};
 use replies::{all_faults, faulty_reply, Fault, Fault::*};
 use rng::Rng;
 
@@ -29,13 +30,17 @@ fn main() {
     script_forms();
     boards_to_prove();
     grounds_in_order();
+    running_operations();
     halts_in_order();
     pairs_of_one_and_two(&mut Rng::new(seed));
     pairs_of_three(&mut Rng::new(seed));
     pairs_of_twelve(&mut Rng::new(seed));
     first_fault_decides(&mut Rng::new(seed));
     pairs_at_random(&mut Rng::new(seed));
-    half_grounds();
+    reply_grounds();
+    outcome_grounds();
+    host_grounds();
+    own_reads::all();
     message_grounds();
     message_round_trips(&mut Rng::new(seed));
     random_runs(seed, runs);
@@ -129,8 +134,8 @@ fn script_forms() {
         let out = run_script(text.as_bytes());
         assert!(out.contains("17 - -"), "{:?} {:?}", line, out);
     }
-    let text = b"members 3\ndeliver 0\ndeliver 4\ncrash 4294967295\nread 4 1\nread 1 0\nread 1 4\nread 1 1\nwrite 2 4294967295\nwrite 2 1\ndeliver 1\ncrash 1\ncrash 1\nread 1 2\n";
-    let expected = "board 3\n1 4 - -\n2 4 - -\n3 4 - -\n4 4 - -\n5 5 0 -\n6 5 0 -\n7 7 0 -\n8 0 1 -\n9 8 1 -\n10 10 0 -\n11 0 0 -\n12 11 0 -\n13 8 0 -\n";
+    let text = b"members 3\ndeliver 0\ndeliver 4\ncrash 4294967295\nread 4 1\nread 1 0\nread 1 4\nread 3 3\nwrite 2 4294967295\nwrite 2 1\ndeliver 1\ncrash 1\ncrash 1\nread 1 2\n";
+    let expected = "board 3\n1 4 - -\n2 4 - -\n3 4 - -\n4 4 - -\n5 5 0 -\n6 5 0 -\n7 0 1 -\n8 0 1 -\n9 8 1 -\n10 10 0 -\n11 0 0 -\n12 11 0 -\n13 8 0 -\n";
     assert_eq!(run_script(text), expected);
     // A read of an unwritten slot prints 0.
     let out = run_script(b"members 2\nread 1 2\ndeliver 1\ndeliver 1\ndeliver 1\ndeliver 1");
@@ -181,8 +186,7 @@ fn boards_to_prove() {
     assert_eq!(deliver_ok(&mut table, 2), Some(last_word(77)));
     // P4 and P5
     let mut table = new_table(2);
-    assert_eq!(begin(&mut table, 1, 1, READ, &[0; 8]), 7);
-    assert_eq!(begin(&mut table, 1, 2, READ, &[0; 8]), 0);
+    assert_eq!(begin(&mut table, 1, 1, READ, &[0; 8]), 0);
     assert_eq!(begin(&mut table, 1, 2, READ, &[0; 8]), 8);
     // P6: first messages taken: each has had its reply.
     let mut table = new_table(3);
@@ -288,12 +292,13 @@ fn grounds_in_order() {
     assert_eq!(begin(&mut table, 1, 3, 0, &[0; 8]), 5);
     assert_eq!(begin(&mut table, 1, 1, 0, &[0; 8]), 6);
     assert_eq!(begin(&mut table, 1, 1, 3, &[0; 8]), 6);
-    assert_eq!(begin(&mut table, 1, 1, READ, &[0; 8]), 7);
     assert_eq!(begin(&mut table, 1, 2, WRITE, &[0; 8]), 7);
     assert_eq!(begin(&mut table, 1, 1, WRITE, &[0; 8]), 8);
+    assert_eq!(begin(&mut table, 1, 1, READ, &[0; 8]), 8);
     block.crash_mark = 0;
     put_block(&mut table, 1, &block);
     assert_eq!(begin(&mut table, 1, 1, WRITE, &[0; 8]), 9);
+    assert_eq!(begin(&mut table, 1, 1, READ, &[0; 8]), 9);
     // Words that make 3, one by one, and words that do not.
     let n = 2;
     let first = block_start(n, 1);
@@ -343,14 +348,19 @@ fn grounds_in_order() {
         table[*place] = *word;
         assert_eq!(check_table(&table), 0, "word {} set to {}", place, word);
     }
+}
+
+/// Member 1 may run a read of any slot, and a write to its own alone.
+fn running_operations() {
+    let first = block_start(2, 1);
     for phase in 1..=5 {
         for slot in 0..=2 {
             for op_type in 0..=2 {
-                let mut table = new_table(n);
+                let mut table = new_table(2);
                 table[first] = phase;
                 table[first + 3] = slot;
                 table[first + 4] = op_type;
-                let good = (slot == 1 && op_type == WRITE) || (slot == 2 && op_type == READ);
+                let good = (slot != 0 && op_type == READ) || (slot == 1 && op_type == WRITE);
                 assert_eq!(check_table(&table), if good { 0 } else { 3 });
             }
         }
@@ -526,23 +536,21 @@ fn pairs_at_random(rng: &mut Rng) {
 
 // ---------------------------------------------------------------- the halves
 
-fn half_grounds() {
-    let n = 2;
-    let good = opening_record(n, 2);
-    let mut bad = good.clone();
-    bad.member = 0;
-    let mut block = block_from_words(&vec![0; block_words(n)], n);
-    let idle = block_to_words(&block);
-    block.phase = SUBMIT_SENT;
-    block.slot = 2;
-    block.op_type = READ;
-    let waiting = block_to_words(&block);
-    block.crash_mark = 1;
-    let crashed = block_to_words(&block);
-    block.crash_mark = 0;
-    block.phase = COMMIT_SENT;
-    let committed = block_to_words(&block);
+/// A member's block on a board of 2, with an operation on slot 2.
+fn block_in(phase: u32, crash_mark: u32, op_type: u32) -> Vec<u32> {
+    let mut block = block_from_words(&vec![0; block_words(2)], 2);
+    (block.phase, block.crash_mark, block.slot, block.op_type) = (phase, crash_mark, 2, op_type);
+    block_to_words(&block)
+}
 
+fn reply_grounds() {
+    let good = opening_record(2, 2);
+    let bad = Record { member: 0, ..good.clone() };
+    let idle = vec![0; block_words(2)];
+    let waiting = block_in(SUBMIT_SENT, 0, READ);
+    let writing = block_in(SUBMIT_SENT, 0, WRITE);
+    let crashed = block_in(SUBMIT_SENT, 1, READ);
+    let committed = block_in(COMMIT_SENT, 0, READ);
     let reply = |words: &[u32], n: u32, member: u32, seals: u32, newest: &Record| {
         let mut words = words.to_vec();
         let before = words.clone();
@@ -556,8 +564,11 @@ fn half_grounds() {
     assert_eq!(reply(&waiting, 13, 1, 3, &good), 1);
     assert_eq!(reply(&waiting[1..], 2, 1, 3, &good), 2);
     assert_eq!(reply(&[], 2, 1, 3, &good), 2);
-    assert_eq!(reply(&waiting, 2, 2, 3, &good), 3); // member 2 may not read slot 2
-    assert_eq!(reply(&waiting, 2, 7, 3, &good), 4); // member 7 would be allowed to
+    assert_eq!(reply(&writing, 2, 1, 3, &good), 3); // member 1 may not write slot 2
+    assert_eq!(reply(&writing, 2, 7, 3, &good), 3); // nor would member 7
+    assert_eq!(reply(&writing, 2, 2, 3, &good), 0); // its owner may
+    assert_eq!(reply(&waiting, 2, 2, 3, &good), 0); // and may read it
+    assert_eq!(reply(&waiting, 2, 7, 3, &good), 4); // as member 7 would
     assert_eq!(reply(&idle, 2, 0, 3, &good), 4);
     assert_eq!(reply(&idle, 2, 1, 9, &bad), 10);
     assert_eq!(reply(&committed, 2, 1, 3, &good), 10);
@@ -565,30 +576,35 @@ fn half_grounds() {
     assert_eq!(reply(&waiting, 2, 1, 4, &good), 15);
     assert_eq!(reply(&waiting, 2, 1, 3, &bad), 15);
     assert_eq!(reply(&waiting, 2, 1, 0, &good), 0); // a halt is no refusal
+}
 
-    let outcome = |words: &[u32], member: u32, outcome: u32| {
-        let mut words = words.to_vec();
-        half_take_outcome(&mut words, 2, member, outcome).number
-    };
-    assert_eq!(outcome(&committed, 5, 1), 4);
-    assert_eq!(outcome(&waiting, 1, 0), 10);
-    assert_eq!(outcome(&committed, 1, 0), 15);
-    assert_eq!(outcome(&committed, 1, 3), 15);
-    assert_eq!(outcome(&committed, 1, 2), 0);
+fn outcome_grounds() {
+    let outcome = |mut words: Vec<u32>, member: u32, outcome: u32| half_take_outcome(&mut words, 2, member, outcome).number;
+    let committed = |op_type: u32| block_in(COMMIT_SENT, 0, op_type);
+    assert_eq!(outcome(committed(WRITE), 1, 1), 3);
+    assert_eq!(outcome(committed(WRITE), 2, 1), 0);
+    assert_eq!(outcome(committed(READ), 2, 1), 0);
+    assert_eq!(outcome(committed(READ), 5, 1), 4);
+    assert_eq!(outcome(block_in(SUBMIT_SENT, 0, READ), 1, 0), 10);
+    assert_eq!(outcome(committed(READ), 1, 0), 15);
+    assert_eq!(outcome(committed(READ), 1, 3), 15);
+    assert_eq!(outcome(committed(READ), 1, 2), 0);
+}
 
-    let mut entries = new_table(n)[entries_start(n)..].to_vec();
+fn host_grounds() {
+    let opened = new_table(2)[entries_start(2)..].to_vec();
+    let mut entries = opened.clone();
     let submit = |member: u32, slot: u32, op_type: u32| Submit { member, slot, op_type, count: 1 };
     assert_eq!(host_submit(&mut entries, 0, &submit(0, 0, 0)), Err(1));
     assert_eq!(host_submit(&mut entries, 3, &submit(0, 0, 0)), Err(2));
     assert_eq!(host_submit(&mut entries, 2, &submit(3, 0, 0)), Err(4));
     assert_eq!(host_submit(&mut entries, 2, &submit(1, 3, 0)), Err(5));
     assert_eq!(host_submit(&mut entries, 2, &submit(1, 1, 0)), Err(6));
-    assert_eq!(host_submit(&mut entries, 2, &submit(1, 1, READ)), Err(7));
     assert_eq!(host_submit(&mut entries, 2, &submit(1, 2, WRITE)), Err(7));
-    assert_eq!(entries, new_table(n)[entries_start(n)..].to_vec());
+    assert_eq!(entries, opened);
     entries[2] = 3;
     assert_eq!(host_submit(&mut entries, 2, &submit(3, 0, 0)), Err(3));
-    assert_eq!(host_commit(&mut entries, 2, &bad), Err(3));
+    assert_eq!(host_commit(&mut entries, 2, &zero_record(2)), Err(3));
     println!("ok half grounds");
 }
 
@@ -621,7 +637,7 @@ fn message_grounds() {
     }
     assert_eq!(messages::check(&[0, 2, 1, 4], n), 15);
     assert_eq!(messages::check(&[0, 9, 1, 1, 1, 2, 1, 0, 0, 0, 0], n), 0);
-    assert_eq!(messages::check(&[0, 9, 1, 1, 1, 1, 1, 0, 0, 0, 0], n), 0); // 7 is no ground here
+    assert_eq!(messages::check(&[0, 9, 1, 1, 1, 2, 2, 0, 0, 0, 0], n), 0); // 7 is no ground here
     // The writer: 1, then 15, then 16.
     let mut bad = record.clone();
     bad.member = 258;
@@ -663,6 +679,7 @@ fn message_round_trips(rng: &mut Rng) {
 struct Tally {
     calls: u64,
     accepted: u64,
+    own_reads: u64, // of the accepted ones
     aborted: u64,
     crashes: u64,
     returned: u64,
@@ -693,7 +710,7 @@ fn random_call(rng: &mut Rng, n: u32, style: &Style, table: &[u32]) -> Call {
     }
     if phase_of(table, member) == IDLE {
         let slot = rng.between(1, style.slots);
-        let op_type = if slot == member { WRITE } else { READ };
+        let op_type = allowed_type(rng, member, slot);
         return Call::Begin { member, slot, op_type, sheet: random_sheet(rng) };
     }
     Call::Deliver { member }
@@ -783,103 +800,142 @@ impl Apart {
     }
 }
 
-fn random_run(rng: &mut Rng, n: u32, style: &Style, tally: &mut Tally) {
-    let mut table = new_table(n);
-    let mut book = Book::new(n);
-    let mut apart = Apart::new(n);
-    // The serial history, from what the board shows: one sheet for each slot,
-    // and what each member's accepted read must return.
-    let mut serial = vec![[0u32; 8]; n as usize];
-    let mut must_return: Vec<Option<Sheet>> = vec![None; n as usize];
-    let mut rows = zero_matrix(n); // counts of the accepted operations
+/// What the accepted operations make of the slots, from what the board shows.
+struct Serial {
+    sheets: Vec<Sheet>,              // of the last write to each slot
+    must_return: Vec<Option<Sheet>>, // of each member's accepted read
+    rows: Matrix,                    // counts of the accepted operations
+    newest: Vec<Record>,             // the last accepted record of each slot
+    by_owner: Vec<Record>,           // and the last by its owner
+}
 
-    for _ in 0..style.steps {
-        let call = random_call(rng, n, style, &table);
-        let before = table.clone();
-        let answer = call_board(&mut table, &call);
-        let (number, returned) = book.call(&call);
-        tally.calls += 1;
-        tally.answers[number as usize] += 1;
+impl Serial {
+    fn new(n: u32) -> Serial {
+        let opening: Vec<Record> = (1..=n).map(|slot| opening_record(n, slot)).collect();
+        let (sheets, must_return) = (vec![[0; 8]; n as usize], vec![None; n as usize]);
+        Serial { sheets, must_return, rows: zero_matrix(n), newest: opening.clone(), by_owner: opening }
+    }
 
-        assert_eq!(answer.number, number, "{:?}", call);
-        assert_eq!(answer.returned, returned, "{:?}", call);
-        for member in 1..=n {
-            assert_eq!(phase_of(&table, member), book.phase(member), "{:?}", call);
+    /// A member's operation is accepted, in phase 3 of its block.
+    fn accept(&mut self, member: u32, block: &Block) {
+        let (m, r) = (member as usize - 1, block.slot as usize - 1);
+        if block.op_type == WRITE {
+            self.sheets[r] = block.pending_sheet;
+        } else {
+            self.must_return[m] = Some(self.sheets[r]);
         }
-        assert_eq!(check_table(&table), 0);
-        for member in 1..=n {
-            assert_ne!(phase_of(&table, member), HALTED);
+        // A read carries the last own sheet.
+        assert_eq!(block.first.sheet, self.sheets[m]);
+        self.rows[r][m] = block.own_counts[r];
+        self.newest[r] = block.first.clone();
+        if member == block.slot {
+            self.by_owner[r] = block.first.clone();
         }
-        if answer.number != 0 {
-            assert_eq!(table, before);
-            continue;
+    }
+
+    fn check_host(&self, table: &[u32]) {
+        for s in 0..self.sheets.len() {
+            let entry = entry_of(table, s as u32 + 1);
+            assert_eq!((&entry.stored, &entry.newest), (&self.by_owner[s], &self.newest[s]));
+            assert_eq!(entry.stored.sheet, self.sheets[s]);
+            assert_eq!(entry.newest.matrix[s], self.rows[s]);
         }
+    }
+}
 
-        let by_halves = apart.follow(&call);
-        assert_eq!(by_halves, answer.returned);
-        assert_eq!(apart.entries[..], table[entries_start(n)..]);
+/// One run: the board, the book, the halves apart, and the serial history.
+struct Run<'a> {
+    n: u32,
+    table: Vec<u32>,
+    book: Book,
+    apart: Apart,
+    serial: Serial,
+    tally: &'a mut Tally,
+}
 
+impl Run<'_> {
+    fn call(&mut self, call: &Call) {
+        let before = self.table.clone();
+        let answer = call_board(&mut self.table, call);
+        let (number, returned) = self.book.call(call);
+        self.tally.calls += 1;
+        self.tally.answers[number as usize] += 1;
+        assert_eq!((answer.number, answer.returned), (number, returned), "{:?}", call);
+        for member in 1..=self.n {
+            assert_eq!(phase_of(&self.table, member), self.book.phase(member), "{:?}", call);
+            assert_ne!(phase_of(&self.table, member), HALTED);
+        }
+        assert_eq!(check_table(&self.table), 0);
+        if number != 0 {
+            assert_eq!(self.table, before);
+            return;
+        }
+        assert_eq!(self.apart.follow(call), returned);
+        assert_eq!(self.apart.entries[..], self.table[entries_start(self.n)..]);
         match call {
             Call::Crash { member } => {
-                tally.crashes += 1;
-                let mut only_mark = before.clone();
-                only_mark[block_start(n, member) + 1] = 1;
-                assert_eq!(table, only_mark);
+                self.tally.crashes += 1;
+                let mut only_mark = before;
+                only_mark[block_start(self.n, *member) + 1] = 1;
+                assert_eq!(self.table, only_mark);
             }
-            Call::Begin { member, .. } => {
-                let block = block_of(&table, member);
-                assert_eq!(block_from_words(&apart.blocks[member as usize - 1], n), block);
-            }
-            Call::Deliver { member } => {
-                let m = member as usize - 1;
-                let old = block_of(&before, member);
-                let new = block_of(&table, member);
-                let r = old.slot as usize - 1;
-                if new.phase == COMMIT_SENT || new.phase == IDLE {
-                    assert_eq!(block_from_words(&apart.blocks[m], n), new);
-                }
-                if new.phase == ACCEPTED_SENT {
-                    tally.accepted += 1;
-                    rows[r][m] = old.own_counts[r];
-                    if old.op_type == WRITE {
-                        serial[r] = old.pending_sheet;
-                    } else {
-                        must_return[m] = Some(serial[r]);
-                    }
-                    let line = book.history.last().unwrap();
-                    assert_eq!((line.member, line.slot, line.op_type, line.sheet), (member, old.slot, old.op_type, serial[r]));
-                }
-                if new.phase == ABORTED_SENT {
-                    tally.aborted += 1;
-                    assert_eq!(table[entries_start(n)..], before[entries_start(n)..]);
-                }
-                if new.phase == IDLE {
-                    assert_eq!(answer.returned, must_return[m].take());
-                    if answer.returned.is_some() {
-                        tally.returned += 1;
-                    }
-                }
-                // The host holds the last write, and each slot's row the accepted counts.
-                for slot in 1..=n {
-                    let entry = entry_of(&table, slot);
-                    let s = slot as usize - 1;
-                    assert_eq!(entry.stored.sheet, serial[s]);
-                    assert_eq!(entry.stored.member, slot);
-                    assert_eq!(entry.newest.matrix[s], rows[s]);
-                }
-            }
+            Call::Begin { member, .. } => self.same_block_apart(*member),
+            Call::Deliver { member } => self.delivered(*member, &before, returned),
         }
     }
-    // The history replayed from the start.
-    let mut sheets = vec![[0u32; 8]; n as usize];
-    for line in &book.history {
-        let s = line.slot as usize - 1;
-        if line.op_type == WRITE {
-            sheets[s] = line.sheet;
-        }
-        assert_eq!(sheets[s], line.sheet);
+
+    fn same_block_apart(&self, member: u32) {
+        let apart = block_from_words(&self.apart.blocks[member as usize - 1], self.n);
+        assert_eq!(apart, block_of(&self.table, member));
     }
-    assert_eq!(sheets, book.sheets);
+
+    fn delivered(&mut self, member: u32, before: &[u32], returned: Option<Sheet>) {
+        let old = block_of(before, member);
+        match phase_of(&self.table, member) {
+            COMMIT_SENT => self.same_block_apart(member),
+            ACCEPTED_SENT => {
+                self.serial.accept(member, &old);
+                self.tally.accepted += 1;
+                self.tally.own_reads += (member == old.slot && old.op_type == READ) as u64;
+                let (slot, op_type, sheet) = (old.slot, old.op_type, self.serial.sheets[old.slot as usize - 1]);
+                assert_eq!(self.book.history.last(), Some(&Line { member, slot, op_type, sheet }));
+            }
+            ABORTED_SENT => {
+                self.tally.aborted += 1;
+                assert_eq!(self.table[entries_start(self.n)..], before[entries_start(self.n)..]);
+            }
+            IDLE => {
+                self.same_block_apart(member);
+                assert_eq!(returned, self.serial.must_return[member as usize - 1].take());
+                self.tally.returned += returned.is_some() as u64;
+            }
+            _ => {}
+        }
+        self.serial.check_host(&self.table);
+    }
+
+    /// The history replayed from the start.
+    fn replay(&self) {
+        let mut sheets = vec![[0u32; 8]; self.n as usize];
+        for line in &self.book.history {
+            let s = line.slot as usize - 1;
+            if line.op_type == WRITE {
+                sheets[s] = line.sheet;
+            }
+            assert_eq!(sheets[s], line.sheet);
+        }
+        assert_eq!(sheets, self.book.sheets);
+    }
+}
+
+fn random_run(rng: &mut Rng, n: u32, style: &Style, tally: &mut Tally) {
+    let (table, book, apart, serial) = (new_table(n), Book::new(n), Apart::new(n), Serial::new(n));
+    let mut run = Run { n, table, book, apart, serial, tally };
+    for _ in 0..style.steps {
+        let call = random_call(rng, n, style, &run.table);
+        run.call(&call);
+    }
+    run.replay();
 }
 
 fn random_runs(seed: u64, runs: u32) {
@@ -896,11 +952,11 @@ fn random_runs(seed: u64, runs: u32) {
             random_run(&mut rng, n, &style, &mut tally);
         }
         println!(
-            "ok runs n {}: calls {} accepted {} aborted {} crashes {} returned {} by answer {:?}",
-            n, tally.calls, tally.accepted, tally.aborted, tally.crashes, tally.returned, tally.answers
+            "ok runs n {}: calls {} accepted {} (own reads {}) aborted {} crashes {} returned {} by answer {:?}",
+            n, tally.calls, tally.accepted, tally.own_reads, tally.aborted, tally.crashes, tally.returned, tally.answers
         );
-        assert!(tally.accepted > 0 && tally.crashes > 0);
-        assert!(n == 1 || (tally.aborted > 0 && tally.returned > 0));
+        assert!(tally.accepted > 0 && tally.crashes > 0 && tally.returned > 0 && tally.own_reads > 0);
+        assert!(n == 1 || tally.aborted > 0);
     }
 }
 

@@ -174,10 +174,12 @@ opened-as-published n = record {
 }
 
 pub owner-as-printed : OwnerAsPrinted
-unfolding line512 line512owner idOf
+unfolding line512 line512owner line512writes idOf
 owner-as-printed = record {
   stores = λ op s own. rw (eq-eqb (op .member) (op .slot) own, own);
   leaves = λ op s other. rw (ne-eqb (op .member) (op .slot) other);
+  writesBefore = λ op s isWrite own. rw (isWrite, own);
+  readsBefore = λ op s isRead. rw isRead;
 }
 
 -- Why the lines differ: runs in which an honest server makes a client halt.

@@ -183,6 +183,7 @@ sample =
     ∷ submit (record { client = 1; count = 3; operation = read; reg = 1 })
     ∷ commit (onSlot1 1 read 3)
     ∷ submit (record { client = 2; count = 3; operation = read; reg = 1 })
+    ∷ commit (onSlot1 2 read 3)
     ∷ []
 
 unfoldable pub sampleAnswers : List FromServer
@@ -198,6 +199,7 @@ sampleAnswers =
     ∷ submitR (onSlot1 1 write 2) (onSlot1 2 read 2)
     ∷ commitR true
     ∷ submitR (onSlot1 1 read 3) (onSlot1 1 read 3)
+    ∷ commitR true
     ∷ []
 
 pub record SampleHolds : Type 0 where

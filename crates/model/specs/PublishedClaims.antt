@@ -6,7 +6,7 @@ use mathlib.Core.Logic.{_↔_}
 use mathlib.Core.List.{List, [], _∷_, _++_}
 use mathlib.Core.Option.{none}
 use lib.Dec.{eqb}
-use Rattle.model.specs.Records.{Value, Rec}
+use Rattle.model.specs.Records.{Value, Rec, read, write}
 use Rattle.model.specs.Kinds.{Kind, isOperation, barred}
 use Rattle.model.specs.Member.{Member, idle, begun, answered, replied, passed, failed, judged, outcome, returnedBy}
 use Rattle.model.specs.Board.{Board, opened, sentRecord}
@@ -42,6 +42,7 @@ use Rattle.model.specs.Published.{
   commitR,
   line512,
   line512owner,
+  line512writes,
   serverAnswers,
 }
 
@@ -168,7 +169,10 @@ pub record OpenedAsPublished (n : ℕ) : Type 0 where
   pub stored : (r : ℕ) → 1 ≤ r → r ≤ n → opened n .stored r ≡ serverOpened .x r
   pub newest : (r : ℕ) → 1 ≤ r → r ≤ n → opened n .host r .newest ≡ serverOpened .lso r
 
--- The third amendment's 5.12 is the printed line on the client's own register, and stores nothing on another's.
+-- The third amendment's 5.12 is the printed line on the client's own register, and stores nothing on another's. Document 01's line, which
+-- it replaces, does the same with a write to one's own register, and stores no read.
 pub record OwnerAsPrinted : Type 0 where
   pub stores : (op : Rec) (s : Server) → op .member ≡ op .slot → line512owner op s ≡ line512 op s
   pub leaves : (op : Rec) (s : Server) → (op .member ≡ op .slot → ⊥) → line512owner op s ≡ s
+  pub writesBefore : (op : Rec) (s : Server) → op .operation ≡ write → op .member ≡ op .slot → line512writes op s ≡ line512 op s
+  pub readsBefore : (op : Rec) (s : Server) → op .operation ≡ read → line512writes op s ≡ s

@@ -217,7 +217,8 @@ strayed-held : Every (MessageHeld 2) strayed
 unfolding strayed sample
 strayed-held =
     tt and tt and tt and on-slot-held 1 write 1 and on-slot-held 2 read 1 and tt and on-slot-held 1 write 2 and tt
-    and on-slot-held 2 read 2 and tt and on-slot-held 1 read 3 and tt and tt
+    and on-slot-held 2 read 2 and tt and on-slot-held 1 read 3 and tt
+    and on-slot-held 2 read 3 and tt
 
 strayed-taken : taken 2 strayed ≡ sample
 unfolding taken strayed sample fits idIn idOf inside isOperation barred onSlot1

@@ -3,8 +3,12 @@ use borrow.Author.Needs.{needs}
 use Prim.Native.Nat.{_+_, _-_}
 use native.Mathlib.Omega.{arith}
 use mathlib.Core.Path.{_∙_, _≡_, ap}
+use mathlib.Core.Bool.{cond}
+use lib.Dec.{eqb}
 use lib.ListN.{length, length-set}
+use Rattle.lists.specs.Functions.{from}
 use Rattle.lists.specs.Parts.{words}
+use Rattle.model.specs.Records.{write}
 use Rattle.model.specs.RecordWords.{valueOf}
 use Rattle.model.specs.Table.{acceptedAt, blockSize, firstAt, knownAt, lastAt, memberOf, pendingAt, secondAt}
 use Rattle.laws.proofs.Steps.{begun-by, count-of, holds-pasted, holds-set}
@@ -17,6 +21,17 @@ start c = let laid = c .before .before in laid .before .before
 
 abbrev carries : tie.After-store-value → tie.After-carried
 carries c = c .before .before .before
+
+-- the value carried: a write's is the given one, a read's the last own one
+carried-value : (c : tie.After-carried)
+    → let a = start c .args in
+    valueOf (words (c .carried .result))
+    ≡ cond (eqb (a .operation) write) (valueOf (words (a .value))) (valueOf (from (words (a .block .now)) (lastAt (a .n))))
+carried-value c =
+    let a = start c .args in
+    c .carried .ensures
+    ∙ ap (λ at. cond (eqb (a .operation) write) (valueOf (words (a .value))) (valueOf (from (words (a .block .now)) at)))
+    (c .before .before .layout .ensures .last)
 
 long : (c : tie.After-store-value) → length (c .store-value .last .0) ≡ length (start (carries c) .args .block .now)
 long c = simp length-set at (c .store-value .kept .0)
@@ -81,7 +96,7 @@ returns c =
     ap (memberOf (a .n)) (e .same)
     ∙ rw (at .ensures .pending)
     (begun-by (a .n) w (a .slot) (a .operation) (valueOf (words (a .value))) value (s .pre .1 .0 .least) (s .pre .1 .0 .most)
-    (rw (at .ensures .last) at (pending .carried .ensures)))
+    (carried-value pending))
 
 pub begin-spec : {M : Type 1} → statement M
 begin-spec =
