@@ -2,7 +2,7 @@
 -- and no submit comes again before its commit: then a mark names at most one id that waits.
 use Prim.Native.Nat.{ℕ}
 use mathlib.Core.Path.{_≡_, refl, sym, ap, ap₂, _∙_}
-use mathlib.Core.Bool.{or-false, and-true, Bool, true, false, cond, not, _&&_, _||_}
+use mathlib.Core.Bool.{or-false, and-true, Bool, true, false, not, _&&_, _||_}
 use mathlib.Core.List.{List, [], _∷_}
 use mathlib.Core.Logic.{_⊎_, inl, inr, ⊎-elim}
 use lib.Dec.{eqb}
@@ -147,7 +147,7 @@ module _ (waiting : Id → Bool) (s t : Server) (h : Printed waiting s t) where
         on (line59noted (mark (idOf op)) t)
         (λ p. rw (same-verdict, p) g)
         (λ p. rw (same-verdict, p) (record {
-          x = ap (λ f. cond (eqb (idOf op .client) (idOf op .reg)) (put f (idOf op .reg) op) f) (h .x);
+          x = ap (λ x. line512owner op (record { pnd = s .pnd; abrt = s .abrt; x = x; lso = s .lso }) .x) (h .x);
           lso = ap (λ f. put f (idOf op .reg) op) (h .lso);
           typed = g .typed;
           alone = g .alone;

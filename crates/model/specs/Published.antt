@@ -34,7 +34,8 @@ withType t id = record { client = id .client; count = id .count; operation = t; 
 
 -- Algorithm 1, client i: the rw_operations that it may call, by type and register
 pub data Called (i : ℕ) : ℕ → ℕ → Type 0 where
-  -- Read(j) do rw_operation(READ, ⊥, j): any register, its own too ("may read from any register", section 4.2)
+  -- Read(j) do rw_operation(READ, ⊥, j): any register, its own too. Section 4.2 says so ("may read from any register"); section 3 speaks
+  -- of "all other registers", and document 02, (a), follows 4.2.
   reads : (j : ℕ) → Called i read j
   -- Write(v) do rw_operation(WRITE, v, i)
   writes : Called i write i
