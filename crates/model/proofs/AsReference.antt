@@ -27,7 +27,8 @@ use Rattle.model.proofs.Invariant.{SlotInv, Inv}
 use Rattle.model.proofs.Phases.{Delivers, step-moves, from-two}
 use Rattle.model.proofs.InvariantMember.{at-rest, checks-pass, begin-keeps, reply-keeps, abort-keeps, completed-keeps}
 use Rattle.model.proofs.InvariantMember.{dropped-keeps, crash-keeps}
-use Rattle.model.proofs.InvariantHost.{submit-keeps, accept-keeps}
+use Rattle.model.proofs.InvariantSubmit.{submit-keeps}
+use Rattle.model.proofs.InvariantAccept.{accept-keeps}
 
 -- The opening.
 

@@ -9,7 +9,8 @@ pub mod LengthClaims
 pub mod Answers
 pub mod Invariant
 pub mod InvariantMember
-pub mod InvariantHost
+pub mod InvariantSubmit
+pub mod InvariantAccept
 pub mod AsReference
 pub mod HistoryInvariant
 pub mod HistoryLists

@@ -18,7 +18,8 @@ use Rattle.model.specs.RecordWords.{valueOf}
 use Rattle.model.specs.Table.{tableWords}
 use Rattle.model.specs.TableCalls.{openNumber, openWords, boardIn, tableRun}
 use Rattle.runs.specs.Case.{Case, Claim, left, answerTo, found, Holds, tableLeft, foundInWords, HoldsInWords}
-use Rattle.runs.specs.Cases.{p1, p9, refusals, writesAlone, fromOpening}
+use Rattle.runs.specs.Cases.{p1, p9, refusals, fromOpening}
+use Rattle.runs.specs.OwnReadCases.{writesAlone}
 use Rattle.runs.specs.ReplyCases.{replyCases}
 use Rattle.runs.proofs.Cases.{every-case}
 use Rattle.laws.proofs.Sound.{SoundBoard}

@@ -53,6 +53,10 @@ pair a b = a ∷ b ∷ []
 abbrev pub triple : ℕ → ℕ → ℕ → List ℕ
 triple a b c = a ∷ b ∷ c ∷ []
 
+-- what a whole operation prints where it is accepted: `ended` is its last line
+abbrev pub prints : List ℕ → List (List ℕ)
+prints ended = pair 0 1 ∷ pair 0 2 ∷ pair 0 3 ∷ pair 0 4 ∷ ended ∷ []
+
 -- What can be asked of a case.
 pub data Question : Type 0 where
   -- what the board program prints, a line for each call: the answer, the member's phase after it (none for answer 4), and the last word

@@ -1,5 +1,6 @@
 pub mod Case
 pub mod ReplyCases
+pub mod OwnReadCases
 pub mod Cases
 pub mod Scripts
 pub mod HostWords
