@@ -9,7 +9,7 @@ use lib.ListN.{length}
 use borrow.Author.Tests.{eqb-true, leb-true, not-false}
 use Rattle.lists.specs.Functions.{inside, Within}
 use Rattle.lists.specs.Parts.{words}
-use Rattle.lists.proofs.Functions.{first, second, inside-low, inside-high}
+use Rattle.lists.proofs.Functions.{first, second, neither, inside-low, inside-high}
 use Rattle.lists.proofs.Refusals.{no-ground, no-failure, no-number, number-refuses, number-passes, regrouped, becomes}
 use Rattle.model.specs.Records.{Rec}
 use Rattle.model.specs.Kinds.{concur, barred}
@@ -30,10 +30,6 @@ refused-waiting a t b e h = number-refuses b e h ∙ regrouped a t 10 b (omega a
 pub passed-waiting : {number r : ℕ} (a : ℕ) (t : Bool) (b : ℕ) → number ≡ orElse a (cond t 10 0) → number ≡ 0 → r ≡ b
     → r ≡ orElse a (cond t 10 b)
 passed-waiting a t b e z h = number-passes e z h ∙ regrouped a t 10 b (omega arith)
-
-neither : (a b : Bool) → (a || b) ≡ false → a ≡ false
-neither true b h = h
-neither false b h = refl
 
 numbered : (n k : ℕ) → inside n k ≡ true → Within n k
 numbered n k h = record { least = inside-low n k h; most = inside-high n k h }
@@ -95,7 +91,9 @@ begin-good n i l r t h =
 -- taking a message, in phase p
 waits : (p : ℕ) (m : Member) → notWaiting p m ≡ false → m .phase ≡ p
 unfolding notWaiting
-waits p m h = eqb-true (m .phase) p (not-false (eqb (m .phase) p) (neither (not (eqb (m .phase) p)) (not (eqb (m .crashed) 0)) h))
+waits p m h =
+    let same = eqb (m .phase) p in
+    eqb-true (m .phase) p (not-false same (neither (not same) (not (eqb (m .crashed) 0)) h .0))
 
 waiting-good : (n i : ℕ) (l : List ℕ) (p tail : ℕ) → inside 5 p ≡ true
     → orElse (memberNumber n i l) (cond (notWaiting p (memberOf n (words l))) 10 tail) ≡ 0 → (Running n l) × (Within n i)

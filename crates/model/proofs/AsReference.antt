@@ -15,8 +15,7 @@ use Rattle.model.specs.Rows.{zeroRow, zeroMatrix}
 use Rattle.model.specs.Records.{read, zeroValue, zeroRecord, opening}
 use Rattle.model.specs.Kinds.{Kind}
 use Rattle.model.specs.Member.{idle, dropped, outcome, returnedBy}
-use Rattle.model.specs.Host.{wins}
-use Rattle.model.specs.Board.{Board, noEntry, openingEntry, opened, sentRecord, commitTaken, outcomeTaken, boardReturned}
+use Rattle.model.specs.Board.{Board, noEntry, openingEntry, opened, commitTaken, outcomeTaken, boardReturned}
 use Rattle.model.specs.Runs.{Call, begin, deliver, crash, answerOf, doneReturns, after, seenAt, run, boards}
 use Rattle.model.specs.ReplyChecks.{CheckedAt, Checked}
 use Rattle.model.specs.Reference.{Reference, refIdle, refEnded, refOpened, refReply, refCommit, refEnd, refReturned, refAnswer}
@@ -28,7 +27,7 @@ use Rattle.model.proofs.Phases.{Delivers, step-moves, from-two}
 use Rattle.model.proofs.InvariantMember.{at-rest, checks-pass, begin-keeps, reply-keeps, abort-keeps, completed-keeps}
 use Rattle.model.proofs.InvariantMember.{dropped-keeps, crash-keeps}
 use Rattle.model.proofs.InvariantSubmit.{submit-keeps}
-use Rattle.model.proofs.InvariantAccept.{accept-keeps}
+use Rattle.model.proofs.InvariantAccept.{wins-marked, accept-keeps}
 
 -- The opening.
 
@@ -66,12 +65,14 @@ same-phase inv i e = sym (inv .members i .phase) ∙ e
 -- A commit keeps it, by its verdict.
 commit-keeps : {n : ℕ} {b : Board} {ref : Reference} (inv : Inv n b ref) (i : ℕ) → b .members i .phase ≡ 3
     → Inv n (commitTaken b i) (refCommit ref i)
-unfolding refCommit wins sentRecord
+unfolding refCommit
 commit-keeps {n} {b} {ref} inv i e =
+    let m = b .members i in
+    let same = sym (wins-marked (b .host (m .slot)) i m) in
     let over = inv .members i .mark (omega arith) (omega arith) in
     by-verdict (λ x. Inv n x (refCommit ref i)) b i
-    (λ won. rw (over ∙ ap not won) (accept-keeps inv i e won))
-    (λ lost. rw (over ∙ ap not lost) (abort-keeps inv i e))
+    (λ won. rw (over ∙ ap not (same ∙ won)) (accept-keeps inv i e (same ∙ won)))
+    (λ lost. rw (over ∙ ap not (same ∙ lost)) (abort-keeps inv i e))
 
 module _ (kind : Kind) where
   -- The answers are the same, since the members' phases, marks and counts are.

@@ -8,14 +8,14 @@ use mathlib.Core.Logic.{_⊎_, inl, inr, ⊎-elim}
 use lib.Dec.{eqb}
 use borrow.Author.Tests.{eqb-true, eqb-false, not-true}
 use Rattle.lists.specs.Functions.{put}
-use Rattle.lists.proofs.Functions.{on, both, either, apart, first, second, fails}
+use Rattle.lists.proofs.Functions.{on, both, either, neither, apart, first, second, fails}
 use Rattle.model.specs.Records.{Rec, read, write}
 use Rattle.model.specs.Kinds.{isOperation}
 use Rattle.model.specs.Published.{Id, idOf, sameId, withType, mark, Server, serverOpened, ToServer, submit, commit, submitR}
 use Rattle.model.specs.Published.{commitR, line54, line54noted, line55, line56, line58, line59, line59noted, line512owner}
 use Rattle.model.specs.Published.{line513, received, answerTo, serverAnswers}
 use Rattle.model.specs.HostClaims.{fits, idIn, allFit, notedAfter, notedAnswer, notedAnswers, waitsAlready, eachOnce, noneWaiting}
-use Rattle.model.proofs.Ids.{same-self, same-eq, not-same, mark-retyped, fit-parts}
+use Rattle.model.proofs.Ids.{same-self, same-eq, not-same, mark-retyped, read-or-write, fit-parts}
 
 -- s is the server with the printed lines, t with document 01's.
 record Printed (waiting : Id → Bool) (s t : Server) : Type 0 where
@@ -30,15 +30,6 @@ record Printed (waiting : Id → Bool) (s t : Server) : Type 0 where
 -- ids of two slots are two
 off-slot : (a b : Id) (r : ℕ) → a .reg ≡ r → eqb r (b .reg) ≡ false → sameId a b ≡ false
 off-slot a b r at p = not-same a b (λ z. eqb-false r (b .reg) p (sym at ∙ ap (λ x. x .reg) z))
-
--- a type that is one is read or write
-read-or-write : (t : ℕ) → isOperation t ≡ true → (t ≡ read) ⊎ (t ≡ write)
-unfolding isOperation
-read-or-write t h = on (eqb t read) (λ p. inl (eqb-true t read p)) (λ p. inr (eqb-true t write (rw p at h)))
-
-neither : (p q : Bool) → (p || q) ≡ false → (p ≡ false) × (q ≡ false)
-neither true q h = absurd (apart refl h)
-neither false q h = (refl, h)
 
 module _ (waiting : Id → Bool) (s t : Server) (h : Printed waiting s t) where
   module _ (id : Id) (operates : isOperation (id .operation) ≡ true) (new : waitsAlready waiting id ≡ false) where

@@ -2,10 +2,12 @@
 use Prim.Native.Nat.{ℕ}
 use mathlib.Core.Path.{_≡_, refl}
 use mathlib.Core.Bool.{Bool, true, false, not, _&&_}
+use mathlib.Core.Logic.{_⊎_, inl, inr}
 use lib.Dec.{eqb}
 use borrow.Author.Tests.{eq-eqb, eqb-true}
 use Rattle.lists.specs.Functions.{inside}
 use Rattle.lists.proofs.Functions.{on, apart, first, second}
+use Rattle.model.specs.Records.{read, write}
 use Rattle.model.specs.Kinds.{isOperation, barred}
 use Rattle.model.specs.Published.{Id, sameId, withType, mark}
 use Rattle.model.specs.HostClaims.{fits}
@@ -41,6 +43,11 @@ not-same a b d = on (sameId a b) (λ q. absurd (d (same-eq a b q))) (λ q. q)
 pub mark-retyped : (a b : Id) → mark a ≡ mark b → a ≡ withType (a .operation) b
 unfolding mark withType
 mark-retyped a b e = λ i. record { client = e i .client; count = e i .count; operation = a .operation; reg = e i .reg }
+
+-- a type that is one is read or write
+pub read-or-write : (t : ℕ) → isOperation t ≡ true → (t ≡ read) ⊎ (t ≡ write)
+unfolding isOperation
+read-or-write t h = on (eqb t read) (λ p. inl (eqb-true t read p)) (λ p. inr (eqb-true t write (rw p at h)))
 
 -- what fits: a member and a slot of the n, and a type that number 7 leaves
 module _ (n : ℕ) (a : Id) (f : fits n a ≡ true) where

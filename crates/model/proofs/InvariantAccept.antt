@@ -21,14 +21,19 @@ use Rattle.model.proofs.InvariantMember.{stepped}
 use Rattle.model.proofs.InvariantSubmit.{bystander, not-marked}
 use Rattle.model.proofs.Invariant.{Tops, Grown, was, isNew, SlotInv, countOn, shown, marked, Running, Extends, MemberInv, Inv}
 
--- what becomes the stored record
-owned : (c : Rec) → c .member ≡ c .slot → becomesStored c ≡ true
-unfolding becomesStored
-owned c own = eq-eqb (c .member) (c .slot) own
+-- the verdict: the newest submit is this one
+pub wins-marked : (e : Entry) (i : ℕ) (m : Member) → wins e (sentRecord i m) ≡ marked e i (m .own (m .slot))
+unfolding wins sentRecord
+wins-marked e i m = refl
 
+-- what becomes the stored record
 not-owned : (c : Rec) → (c .member ≡ c .slot → ⊥) → becomesStored c ≡ false
 unfolding becomesStored
 not-owned c other = ne-eqb (c .member) (c .slot) other
+
+owned : (c : Rec) → c .member ≡ c .slot → becomesStored c ≡ true
+unfolding becomesStored
+owned c own = eq-eqb (c .member) (c .slot) own
 
 module _ {n : ℕ} {b : Board} {ref : Reference} (inv : Inv n b ref) (i : ℕ) (e : b .members i .phase ≡ 3)
     (won : marked (b .host (b .members i .slot)) i (b .members i .own (b .members i .slot)) ≡ true) where
@@ -54,8 +59,7 @@ module _ {n : ℕ} {b : Board} {ref : Reference} (inv : Inv n b ref) (i : ℕ) (
   row₃ = b .members i .first .matrix (b .members i .slot)
 
   won-commit : wins (b .host r₃) sent ≡ true
-  unfolding wins sentRecord
-  won-commit = won
+  won-commit = wins-marked (b .host r₃) i m₃ ∙ won
 
   -- the winner is not overtaken, so its record extends what the host has
   not-overtaken : ref .members i .overtaken ≡ false

@@ -83,6 +83,14 @@ module _ {n : ℕ} {b : Board} {ref : Reference} (inv : Inv n b ref) (i : ℕ) (
   abbrev entry₁ : Entry
   entry₁ = submitted (b .host r₁) i (m₁ .own r₁)
 
+  entry-taken : submitTaken b i .host r₁ ≡ entry₁
+  unfolding submitTaken
+  entry-taken = put-at (b .host) r₁ entry₁
+
+  now-marked : marked entry₁ i (m₁ .own r₁) ≡ true
+  unfolding submitted
+  now-marked = both (eq-eqb i i refl) (eq-eqb (m₁ .own r₁) (m₁ .own r₁) refl)
+
   -- the newest records stay
   newest-kept : (k : ℕ) → submitTaken b i .host k .newest ≡ b .host k .newest
   unfolding submitTaken submitted
@@ -96,7 +104,7 @@ module _ {n : ℕ} {b : Board} {ref : Reference} (inv : Inv n b ref) (i : ℕ) (
       let slot = inv .slots (m₁ .slot) in
       stepped 2 (m₁ .halt) (b .host r₁ .newest) (b .stored r₁) (ref .members i .noted) entry₁ (b .stored r₁) (λ j a p. p) old
       (omega arith) (omega arith) (omega arith)
-      (λ q. old .fresh e ∙ sym (ap not (both (eq-eqb i i refl) (eq-eqb (m₁ .own r₁) (m₁ .own r₁) refl))))
+      (λ q. old .fresh e ∙ sym (ap not now-marked))
       (λ q. record {
         firstTops = inv .newest r₁;
         knownBelow = inv .top r₁ (m₁ .known r₁) (old .knownTops r₁);
@@ -160,5 +168,5 @@ module _ {n : ℕ} {b : Board} {ref : Reference} (inv : Inv n b ref) (i : ℕ) (
         (b .members)
         (λ k. cond (submittedOn (ref .members i .slot) (ref .members k)) (refOvertaken (ref .members k)) (ref .members k))
         i (answered m₁ (b .host r₁ .newest) (b .stored r₁)) (refMoved (ref .members i) 2)
-        (rw (put-at (b .host) r₁ entry₁) submit-self) submit-other;
+        (rw entry-taken submit-self) submit-other;
   }

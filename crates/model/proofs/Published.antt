@@ -3,12 +3,13 @@
 use Prim.Native.Nat.{ℕ, _/_, _%_}
 use mathlib.Core.Path.{_≡_, refl, sym, _∙_, ap, fun-ext}
 use mathlib.Core.Bool.{Bool, true, false, cond, not, _&&_}
+use mathlib.Core.Logic.{⊎-elim}
 use mathlib.Core.Option.{none}
 use native.Mathlib.Omega.{arith}
 use lib.Dec.{eqb}
 use borrow.Author.Tests.{eq-eqb, ne-eqb, eqb-true, eqb-false, not-false}
 use Rattle.lists.specs.Functions.{put, each}
-use Rattle.lists.proofs.Functions.{on, apart, within-at}
+use Rattle.lists.proofs.Functions.{on, within-at}
 use Rattle.model.specs.Rows.{larger, below, matrixBelow, comparable, zeroRow, zeroMatrix}
 use Rattle.model.specs.Records.{Value, Rec, read, write, opening, zeroRecord}
 use Rattle.model.specs.Kinds.{isOperation, barred}
@@ -23,6 +24,7 @@ use Rattle.model.specs.Published.{clientOpened, Server, serverOpened, su
 use Rattle.model.specs.Published.{line512owner, line512writes, line513, received, sameId}
 use Rattle.model.specs.PublishedClaims.{variables, resting, working, submitOf, newestHeld, storedHeld, MemberAsPublished}
 use Rattle.model.specs.PublishedClaims.{OpenedAsPublished, OwnerAsPrinted}
+use Rattle.model.proofs.Ids.{read-or-write}
 
 eqb-swap : (a b : ℕ) → eqb a b ≡ eqb b a
 eqb-swap a b = on (eqb a b)
@@ -138,10 +140,11 @@ same-whole n i m r t v newest stored =
 
 -- number 7 and Algorithm 1: a write is to one's own register, and a read is of any
 called : (i r t : ℕ) → isOperation t ≡ true → barred i r t ≡ false → Called i t r
-unfolding isOperation barred
-called i r t h b = on (eqb t write)
-    (λ w. let own : i ≡ r = eqb-true i r (not-false (eqb i r) (rw w at b)) in rw (eqb-true t write w, ← own) writes)
-    (λ w. let z : t ≡ read = on (eqb t read) (λ p. eqb-true t read p) (λ p. absurd (apart h (rw (p, w)))) in rw z (reads r))
+unfolding barred
+called i r t h b = ⊎-elim
+    (λ isRead. rw isRead (reads r))
+    (λ isWrite. let own : i ≡ r = eqb-true i r (not-false (eqb i r) (rw isWrite at b)) in rw isWrite (rw (← own) writes))
+    (read-or-write t h)
 
 not-barred : (i r t : ℕ) → Called i t r → barred i r t ≡ false
 unfolding barred

@@ -9,7 +9,7 @@ use Rattle.board.proofs.interface.concur_board_words.Tie as tie
 
 returns : tie.Need-returns
 unfolding wordsFor
-returns c = rw (refused (c .before .is-numbered .ensures) (c .if1 .taken))
+returns c = simp (refused (c .before .is-numbered .ensures) (c .if1 .taken))
 
 table-size-requires : tie.Need-table-size-requires
 table-size-requires c κs = inside-high 12 _ (allowed (c .before .is-numbered .ensures) (c .if1 .left))

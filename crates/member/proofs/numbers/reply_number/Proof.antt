@@ -62,7 +62,7 @@ returns-4 c =
     let fit = c .before .before in
     let few = fit .before .before in
     judged (few .before) _
-    (rw (
+    (simp (
       le-leb _ 3 (few .if2 .left),
       allowed (fit .before .fits2 .ensures) (fit .if3 .left),
       refused (c .before .fits3 .ensures)
