@@ -13,48 +13,44 @@ use Rattle.lists.proofs.Functions.{on, put-at, pasted-below, from-pasted-at, nu
 use Rattle.lists.proofs.Refusals.{number-refuses, number-passes, stays, becomes}
 use Rattle.lists.proofs.Parts.{words-set, tabulate-same}
 use Rattle.lists.proofs.Pieces.{tabulate-join, tabulate-of}
-use Rattle.model.specs.Kinds.{concur}
+use Rattle.model.specs.Kinds.{Kind, concur}
 use Rattle.model.specs.Records.{Value, zeroValue}
 use Rattle.model.specs.RecordWords.{valueOf}
 use Rattle.model.specs.Runs.{Call, begin}
-use Rattle.model.specs.Table.{valueSize, tableNumber}
-use Rattle.model.specs.TableCalls.{tableAnswer, tableAfter, tableReturns}
+use Rattle.model.specs.Table.{valueSize}
+use Rattle.model.specs.TableCalls.{callNumber, tableAnswer, tableAfter, tableReturns}
 use Rattle.laws.proofs.Records.{valueOf-same}
 use Rattle.member.specs.Results.{returnedIn}
 use Rattle.member.specs.declared.Outcome.{Outcome}
 use Rattle.board.specs.Needs.{Answered}
-use Rattle.board.specs.Interface.{answerBeside, afterBeside, returnedSize, returnedWords, returnedAfter}
+use Rattle.board.specs.Interface.{answerBeside, afterBeside, Beside, returnedSize, returnedWords, returnedAfter}
 use Rattle.board.proofs.Answers.{call-number, call-table}
 
--- The number, and the table after the call.
-abbrev pub Beside : ℕ → ℕ → List ℕ → Call → ℕ → List ℕ → Type 0
-Beside long due l call k exit = (k ≡ answerBeside long due l call) × (exit ≡ afterBeside long due l call)
-
-module _ (long due : ℕ) (l : List ℕ) (call : Call) where
+module _ (kind : Kind) (long due : ℕ) (l : List ℕ) (call : Call) where
   -- refused, the table is as it was
-  refused : {k : ℕ} → k ≡ answerBeside long due l call → (k ≡ 0 → ⊥) → Beside long due l call k l
+  refused : {k : ℕ} → k ≡ answerBeside kind long due l call → (k ≡ 0 → ⊥) → Beside kind long due l call k l
   unfolding afterBeside
   refused e ne = (e, stays l _ e ne)
 
-  -- by the table's own number
-  pub own-beside : {k : ℕ} → k ≡ tableNumber l → (k ≡ 0 → ⊥) → Beside long due l call k l
+  -- by a number that no argument has a part in
+  pub own-beside : {k : ℕ} → k ≡ callNumber kind l call → (k ≡ 0 → ⊥) → Beside kind long due l call k l
   unfolding answerBeside
   own-beside e ne = refused (number-refuses _ e ne) ne
 
-  module _ {k : ℕ} (e : k ≡ tableNumber l) (z : k ≡ 0) where
+  module _ {k : ℕ} (e : k ≡ callNumber kind l call) (z : k ≡ 0) where
     -- by the slice's length
-    pub long-beside : (long ≡ due → ⊥) → Beside long due l call 2 l
+    pub long-beside : (long ≡ due → ⊥) → Beside kind long due l call 2 l
     unfolding answerBeside
     long-beside ne = refused (number-passes e z (rw (ne-eqb long due ne))) (omega arith)
 
-    module _ (fits : long ≡ due) {number : ℕ} {exit : List ℕ} (h : Answered (words l 0) l call number exit) where
-      same-call : tableAnswer concur l call ≡ answerBeside long due l call
+    module _ (fits : long ≡ due) {number : ℕ} {exit : List ℕ} (h : Answered kind (words l 0) l call number exit) where
+      same-call : tableAnswer kind l call ≡ answerBeside kind long due l call
       unfolding answerBeside tableAnswer
       same-call = rw (eq-eqb long due fits)
 
-      pub done-beside : Beside long due l call number exit
+      pub done-beside : Beside kind long due l call number exit
       unfolding afterBeside tableAfter
-      done-beside = (call-number l exit call e z h ∙ same-call, call-table l exit call e z h ∙ rw same-call)
+      done-beside = (call-number kind l exit call e z h ∙ same-call, call-table kind l exit call e z h ∙ rw same-call)
 
 -- What is handed out.
 given : (w : Value) (v : Option Value) → some w ≡ v → (1 ∷ listed valueSize w) ≡ returnedWords v
@@ -73,12 +69,12 @@ handed r v e blank = on (r .returned)
     (λ p. rw (p, blank p) (nothing v (rw p at e)))
 
 module _ (returned l : List ℕ) (call : Call) where
-  pub returned-kept : {k : ℕ} → k ≡ answerBeside (length returned) returnedSize l call → (k ≡ 0 → ⊥)
+  pub returned-kept : {k : ℕ} → k ≡ answerBeside concur (length returned) returnedSize l call → (k ≡ 0 → ⊥)
       → returned ≡ returnedAfter returned l call
   unfolding returnedAfter
   returned-kept e ne = stays returned _ e ne
 
-  pub returned-written : 0 ≡ answerBeside (length returned) returnedSize l call → {written : List ℕ}
+  pub returned-written : 0 ≡ answerBeside concur (length returned) returnedSize l call → {written : List ℕ}
       → written ≡ returnedWords (tableReturns concur l call)
       → written ≡ returnedAfter returned l call
   unfolding returnedAfter
@@ -110,6 +106,6 @@ pub from-start : (w : ℕ → ℕ) → valueOf (from w 0) ≡ valueOf w
 unfolding from
 from-start w = valueOf-same (λ i. w (0 + i)) w (λ i p. let e : 0 + i ≡ i = omega arith in ap w e)
 
-pub same-value : {n : ℕ} {l : List ℕ} {i r t : ℕ} {v w : Value} {k : ℕ} {exit : List ℕ} → v ≡ w → Answered n l (begin i r t v) k exit
-    → Answered n l (begin i r t w) k exit
+pub same-value : {kind : Kind} {n : ℕ} {l : List ℕ} {i r t : ℕ} {v w : Value} {k : ℕ} {exit : List ℕ} → v ≡ w
+    → Answered kind n l (begin i r t v) k exit → Answered kind n l (begin i r t w) k exit
 same-value e h = rw (← e) h

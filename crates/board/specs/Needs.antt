@@ -4,9 +4,10 @@ use mathlib.Core.Path.{_≡_}
 use mathlib.Core.Bool.{true}
 use mathlib.Core.List.{List}
 use Rattle.lists.specs.Parts.{words}
-use Rattle.model.specs.Kinds.{concur}
+use Rattle.model.specs.Kinds.{Kind}
 use Rattle.model.specs.Runs.{Call, answerOf, after}
 use Rattle.model.specs.Table.{boardOf, soundBoard}
+use Rattle.model.specs.TableCalls.{boardIn, tableAnswer, tableAfter, tableBoard}
 use Rattle.lists.specs.Functions.{Within}
 use Rattle.tables.specs.Needs.{Table, Left}
 
@@ -22,6 +23,10 @@ pub record Turn (n i : ℕ) (l : List ℕ) : Type 0 where
   pub slot : Within n (boardOf n (words l) .members i .slot)
 
 -- a call on the table l: its number, and the table that it left, which a refusal leaves as it was
-pub record Answered (n : ℕ) (l : List ℕ) (call : Call) (answer : ℕ) (exit : List ℕ) : Type 0 where
-  pub number : answer ≡ answerOf concur n (boardOf n (words l)) call
-  pub left : Left n (after concur n (boardOf n (words l)) call) exit
+pub record Answered (kind : Kind) (n : ℕ) (l : List ℕ) (call : Call) (answer : ℕ) (exit : List ℕ) : Type 0 where
+  pub number : answer ≡ answerOf kind n (boardOf n (words l)) call
+  pub left : Left n (after kind n (boardOf n (words l)) call) exit
+
+-- what the public calls promise: the number, the words after the call, and the board that they stand for
+abbrev pub OnTable : Kind → List ℕ → Call → ℕ → List ℕ → Type 0
+OnTable kind l call k exit = (k ≡ tableAnswer kind l call) × ((exit ≡ tableAfter kind l call) × (boardIn exit ≡ tableBoard kind l call))

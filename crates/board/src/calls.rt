@@ -4,7 +4,7 @@ ghost use mathlib.Core.Bool.{false, cond};
 ghost use mathlib.Core.Option.{none};
 ghost use lib.Dec.{eqb};
 ghost use Rattle.lists.specs.Parts.{words};
-ghost use Rattle.model.specs.Kinds.{concur};
+ghost use Rattle.model.specs.Kinds.{Kind, concur};
 ghost use Rattle.model.specs.Records.{zeroValue};
 ghost use Rattle.model.specs.RecordWords.{valueOf};
 ghost use Rattle.model.specs.Board.{boardDelivered, boardReturned};
@@ -28,8 +28,10 @@ use member::steps::phase_of;
 use rules::is_numbered;
 use tables::steps::block_at;
 
+// Begin, with the limit of the board's kind.
 pub fn begin_on(
     table: &mut [u32],
+    limit: u32,
     n: u32,
     member: u32,
     slot: u32,
@@ -37,14 +39,15 @@ pub fn begin_on(
     value: [u32; 8],
 ) -> u32
     requires { ⌜ Table n (now table) ⌝ }
-    ensures { λ r. ⌜ Answered n (now (table .entry)) (beginCall member slot operation (valueOf (words value))) r (now (table .exit)) ⌝ }
+    ensures { λ r. ⌜ ((kind : Kind) → limit ≡ kind .limit
+        → Answered kind n (now (table .entry)) (beginCall member slot operation (valueOf (words value))) r (now (table .exit))) ⌝ }
 {
     if !is_numbered(member, n) {
         return 4;
     }
     let at = block_at(n as usize, member as usize);
     let end = at + block_size(n as usize);
-    let number = begin_answer_on(&table[at..end], n, member, slot, operation);
+    let number = begin_answer_on(&table[at..end], limit, n, member, slot, operation);
     if number != 0 {
         return number;
     }
@@ -75,7 +78,7 @@ fn delivered(table: &mut [u32], n: usize, member: u32, phase: u32) -> Outcome
 
 pub fn deliver_on(table: &mut [u32], n: u32, member: u32) -> Outcome
     requires { ⌜ Sound n (now table) ⌝ }
-    ensures { λ r. ⌜ Answered n (now (table .entry)) (deliverCall member) (r .number) (now (table .exit)) ⌝ }
+    ensures { λ r. ⌜ Answered concur n (now (table .entry)) (deliverCall member) (r .number) (now (table .exit)) ⌝ }
     ensures { λ r. let b = boardBy n (now (table .entry)) in
         ⌜ returnedIn r ≡ cond (eqb (answerOf concur n b (deliverCall member)) 0) (doneReturns b (deliverCall member)) none ⌝ }
     ensures { λ r. ⌜ (r .returned ≡ false → valueOf (words (r .value)) ≡ zeroValue) ⌝ }
@@ -95,7 +98,7 @@ pub fn deliver_on(table: &mut [u32], n: u32, member: u32) -> Outcome
 
 pub fn crash_on(table: &mut [u32], n: u32, member: u32) -> u32
     requires { ⌜ Table n (now table) ⌝ }
-    ensures { λ r. ⌜ Answered n (now (table .entry)) (crashCall member) r (now (table .exit)) ⌝ }
+    ensures { λ r. ⌜ Answered concur n (now (table .entry)) (crashCall member) r (now (table .exit)) ⌝ }
 {
     if !is_numbered(member, n) {
         return 4;

@@ -2,18 +2,21 @@
 ghost use mathlib.Core.Path.{_≡_};
 ghost use lib.ListN.{length};
 ghost use Rattle.lists.specs.Parts.{words};
-ghost use Rattle.model.specs.Kinds.{concur};
+ghost use Rattle.model.specs.Kinds.{concur, auction};
 ghost use Rattle.model.specs.RecordWords.{valueOf};
 ghost use Rattle.model.specs.Runs.{begin as beginCall, deliver as deliverCall, crash as crashCall};
 ghost use Rattle.model.specs.Table.{valueSize};
 ghost use Rattle.model.specs.TableCalls.{openNumber, openWords, tableAnswer, tableAfter};
 ghost use Rattle.board.specs.Interface.{wordsFor, answerBeside, afterBeside, returnedSize, returnedAfter};
-use crate::calls::begin_on;
+use crate::auction;
 use crate::calls::deliver_on;
 use crate::crash;
+use crate::kinds::begin_beside;
 use crate::open;
 use crate::steps::hand_out;
-use records::steps::load_value;
+use rules::AUCTION_LIMIT;
+use rules::AUCTION_MEMBERS;
+use rules::LIMIT;
 use rules::MOST_MEMBERS;
 use rules::is_numbered;
 use tables::check::table_number;
@@ -46,28 +49,54 @@ pub extern "C" fn concur_board_begin(
     value: &[u32],
 ) -> u32
     ensures { λ r. ⌜ r
-        ≡ answerBeside (length (now (value .entry))) valueSize (now (table .entry))
+        ≡ answerBeside concur (length (now (value .entry))) valueSize (now (table .entry))
         (beginCall member slot operation (valueOf (words (now (value .entry))))) ⌝ }
     ensures { λ _. ⌜ now (table .exit)
-        ≡ afterBeside (length (now (value .entry))) valueSize (now (table .entry))
+        ≡ afterBeside concur (length (now (value .entry))) valueSize (now (table .entry))
         (beginCall member slot operation (valueOf (words (now (value .entry))))) ⌝ }
 {
-    let number = table_number(table);
-    if number != 0 {
-        return number;
-    }
-    if value.len() != 8 {
-        return 2;
-    }
-    let n = table[0];
-    begin_on(table, n, member, slot, operation, load_value(value, 0))
+    begin_beside(table, LIMIT, MOST_MEMBERS, member, slot, operation, value)
+}
+
+#[no_mangle]
+pub extern "C" fn concur_auction_open(table: &mut [u32], n: u32) -> u32
+    ensures { λ r. ⌜ r ≡ openNumber auction n (now (table .entry)) ⌝ }
+    ensures { λ _. ⌜ now (table .exit) ≡ openWords auction n (now (table .entry)) ⌝ }
+{
+    auction::open(table, n)
+}
+
+#[no_mangle]
+pub extern "C" fn concur_auction_begin(
+    table: &mut [u32],
+    member: u32,
+    slot: u32,
+    operation: u32,
+    value: &[u32],
+) -> u32
+    ensures { λ r. ⌜ r
+        ≡ answerBeside auction (length (now (value .entry))) valueSize (now (table .entry))
+        (beginCall member slot operation (valueOf (words (now (value .entry))))) ⌝ }
+    ensures { λ _. ⌜ now (table .exit)
+        ≡ afterBeside auction (length (now (value .entry))) valueSize (now (table .entry))
+        (beginCall member slot operation (valueOf (words (now (value .entry))))) ⌝ }
+{
+    begin_beside(
+        table,
+        AUCTION_LIMIT,
+        AUCTION_MEMBERS,
+        member,
+        slot,
+        operation,
+        value,
+    )
 }
 
 #[no_mangle]
 pub extern "C" fn concur_board_deliver(table: &mut [u32], member: u32, returned: &mut [u32]) -> u32
-    ensures { λ r. ⌜ r ≡ answerBeside (length (now (returned .entry))) returnedSize (now (table .entry)) (deliverCall member) ⌝ }
+    ensures { λ r. ⌜ r ≡ answerBeside concur (length (now (returned .entry))) returnedSize (now (table .entry)) (deliverCall member) ⌝ }
     ensures { λ _. ⌜ now (table .exit)
-        ≡ afterBeside (length (now (returned .entry))) returnedSize (now (table .entry)) (deliverCall member) ⌝ }
+        ≡ afterBeside concur (length (now (returned .entry))) returnedSize (now (table .entry)) (deliverCall member) ⌝ }
     ensures { λ _. ⌜ now (returned .exit) ≡ returnedAfter (now (returned .entry)) (now (table .entry)) (deliverCall member) ⌝ }
 {
     let number = table_number(table);

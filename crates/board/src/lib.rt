@@ -10,34 +10,28 @@ ghost use Rattle.model.specs.Runs.{begin as beginCall, deliver as deliverCall, 
 ghost use Rattle.model.specs.TableCalls.{openNumber, openWords, boardIn, tableAnswer, tableAfter, tableReturns, tableBoard};
 ghost use Rattle.member.specs.Results.{returnedIn};
 
+pub mod auction;
 mod calls;
 mod interface;
+mod kinds;
 mod phases;
 pub mod steps;
 
-use calls::begin_on;
 use calls::crash_on;
 use calls::deliver_on;
+use kinds::begin_by;
+use kinds::open_by;
 use member::Outcome;
+use rules::LIMIT;
 use rules::MOST_MEMBERS;
-use rules::is_numbered;
 use tables::check::table_number;
-use tables::steps::open_all;
-use tables::steps::table_size;
 
 // Opening, on a table whose old words are not looked at.
 pub fn open(table: &mut [u32], n: u32) -> u32
     ensures { λ r. ⌜ r ≡ openNumber concur n (now (table .entry)) ⌝ }
     ensures { λ _. ⌜ now (table .exit) ≡ openWords concur n (now (table .entry)) ⌝ }
 {
-    if !is_numbered(n, MOST_MEMBERS) {
-        return 1;
-    }
-    if table.len() != table_size(n as usize) {
-        return 2;
-    }
-    open_all(table, n);
-    0
+    open_by(table, MOST_MEMBERS, n)
 }
 
 // A member begins an operation on a slot: 1 a read, 2 a write of the value.
@@ -48,12 +42,7 @@ pub fn begin(table: &mut [u32], member: u32, slot: u32, operation: u32, value: [
     ensures { λ _. ⌜ boardIn (now (table .exit))
         ≡ tableBoard concur (now (table .entry)) (beginCall member slot operation (valueOf (words value))) ⌝ }
 {
-    let number = table_number(table);
-    if number != 0 {
-        return number;
-    }
-    let n = table[0];
-    begin_on(table, n, member, slot, operation, value)
+    begin_by(table, LIMIT, MOST_MEMBERS, member, slot, operation, value)
 }
 
 // The next message to or from a member is delivered; an accepted read returns its value at the last of the four.

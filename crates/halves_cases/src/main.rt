@@ -1,5 +1,5 @@
-// The cases P9, P10 and P11 of document 01 and an own read (document 02, (a)) on the two halves as they run, and the pairs that a reply's
-// checks look at; what is printed is compared with the file stdout.
+// The cases P9, P10 and P11 of document 01, an auction gateway's begin and an own read (document 02, (b) and (a)) on the two halves as they
+// run, and the pairs that a reply's checks look at; what is printed is compared with the file stdout.
 use records::Record;
 use rows::Row;
 
@@ -13,18 +13,58 @@ fn line(a: u32, b: u32, c: u32) {
     io::write_all(1, b"\n");
 }
 
+// Member 1's write takes an opening reply, and then that it is aborted. Each line: the answer, the phase, the own count.
+fn aborted(begun: [u32; 61]) -> [u32; 61] {
+    let mut block = begun;
+    let replied = member::take_reply(&mut block, 2, 1, Record::opening(1), Record::opening(1), 3);
+    line(replied.number, block[0], block[5]);
+    let ended = member::take_outcome(&mut block, 2, 1, 2);
+    line(ended.number, block[0], block[5]);
+    block
+}
+
 // P9: own count 4,294,967,294 begins; once idle again, 9. Each line: the answer, the phase, the own count.
 fn p9() {
     let mut block = [0u32; 61];
     block[5] = 4294967294;
     let begun = member::begin(&mut block, 2, 1, 1, 2, [0; 8]);
     line(begun, block[0], block[5]);
-    let replied = member::take_reply(&mut block, 2, 1, Record::opening(1), Record::opening(1), 3);
-    line(replied.number, block[0], block[5]);
-    let ended = member::take_outcome(&mut block, 2, 1, 2);
-    line(ended.number, block[0], block[5]);
+    block = aborted(block);
     let again = member::begin(&mut block, 2, 1, 1, 2, [0; 8]);
     line(again, block[0], block[5]);
+}
+
+// The same at the limit of an auction board, and above it; the common begin goes on.
+fn auction_limit() {
+    let mut block = [0u32; 61];
+    block[5] = 9998;
+    let begun = member::auction::begin(&mut block, 2, 1, 1, 2, [0; 8]);
+    line(begun, block[0], block[5]);
+    block = aborted(block);
+    let again = member::auction::begin(&mut block, 2, 1, 1, 2, [0; 8]);
+    line(again, block[0], block[5]);
+    block[5] = 10000;
+    let above = member::auction::begin(&mut block, 2, 1, 1, 2, [0; 8]);
+    line(above, block[0], block[5]);
+    let common = member::begin(&mut block, 2, 1, 1, 2, [0; 8]);
+    line(common, block[0], block[5]);
+}
+
+// Five members: 1, before there is no such member, but after the block's length and its words; the common begin answers 4 there.
+fn auction_of_five() {
+    let mut block = [0u32; 130];
+    let five = member::auction::begin(&mut block, 5, 1, 1, 2, [0; 8]);
+    line(five, block[0], block[5]);
+    let sixth = member::auction::begin(&mut block, 5, 6, 1, 2, [0; 8]);
+    line(sixth, block[0], block[5]);
+    let common = member::begin(&mut block, 5, 6, 1, 2, [0; 8]);
+    line(common, block[0], block[5]);
+    let mut part = [0u32; 129];
+    let short = member::auction::begin(&mut part, 5, 1, 1, 2, [0; 8]);
+    line(short, part[0], part[5]);
+    block[0] = 7;
+    let damaged = member::auction::begin(&mut block, 5, 1, 1, 2, [0; 8]);
+    line(damaged, block[0], block[5]);
 }
 
 // P10: a crash in phase 3: the host still takes the commit and accepts it, the member takes no outcome.
@@ -196,6 +236,8 @@ fn other_pairs() {
 
 fn main() {
     p9();
+    auction_limit();
+    auction_of_five();
     p10();
     p11();
     own_read();

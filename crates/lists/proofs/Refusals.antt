@@ -32,11 +32,16 @@ number-refuses {number} {a} rest e h = rw (ne-eqb a 0 (λ z. h (e ∙ z))) e
 pub number-passes : {number a rest r : ℕ} → number ≡ a → number ≡ 0 → r ≡ rest → r ≡ cond (eqb a 0) rest a
 number-passes {number} {a} e z h = rw (eq-eqb a 0 (sym e ∙ z)) h
 
+-- numbers asked in a row may be grouped from either end
+pub grouped : (a b rest : ℕ)
+    → cond (eqb (cond (eqb a 0) b a) 0) rest (cond (eqb a 0) b a) ≡ cond (eqb a 0) (cond (eqb b 0) rest b) a
+grouped a b rest = on (eqb a 0) (λ e. rw e) (λ e. rw (e, e))
+
 -- one ground more may count to the number that stands first
 pub regrouped : (a : ℕ) (t : Bool) (k rest : ℕ) → 0 < k
     → cond (eqb (cond (eqb a 0) (cond t k 0) a) 0) rest (cond (eqb a 0) (cond t k 0) a) ≡ cond (eqb a 0) (cond t k rest) a
-regrouped a true k rest p = on (eqb a 0) (λ e. rw (e, ne-eqb k 0 (omega arith))) (λ e. rw (e, e))
-regrouped a false k rest p = on (eqb a 0) (λ e. rw e) (λ e. rw (e, e))
+regrouped a true k rest p = grouped a k rest ∙ rw (ne-eqb k 0 (omega arith))
+regrouped a false k rest p = grouped a 0 rest
 
 -- What a call of number k leaves: all as it was where it is refused, and else what it makes.
 

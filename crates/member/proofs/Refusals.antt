@@ -12,15 +12,15 @@ use Rattle.lists.specs.Parts.{words}
 use Rattle.lists.proofs.Functions.{first, second, neither, inside-low, inside-high}
 use Rattle.lists.proofs.Refusals.{no-ground, no-failure, no-number, number-refuses, number-passes, regrouped, becomes}
 use Rattle.model.specs.Records.{Rec}
-use Rattle.model.specs.Kinds.{concur, barred}
+use Rattle.model.specs.Kinds.{Kind, barred}
 use Rattle.model.specs.Member.{Member}
 use Rattle.model.specs.Table.{blockSize, memberOf, memberWords, soundRecord, soundOperation, soundMember, blockNumber}
-use Rattle.model.specs.Numbers.{orElse}
-use Rattle.model.specs.Halves.{unlessRefused, fitRecord, memberNumber, memberBeginNumber, notWaiting, replyNumber, outcomeNumber}
+use Rattle.model.specs.Numbers.{orElse, beginAnswer}
+use Rattle.model.specs.Halves.{unlessRefused, fitRecord, lentNumber, memberNumber, notWaiting, replyNumber, outcomeNumber}
 use Rattle.model.specs.Halves.{memberCrashNumber}
 use Rattle.model.proofs.Answers.{begin-taken}
 use Rattle.laws.proofs.Blocks.{member-back}
-use Rattle.member.specs.Needs.{Block, Running}
+use Rattle.member.specs.Needs.{Block, Begins, Running}
 
 -- A call's number that also makes the test of number 10: refused by it, or answered by the grounds behind it.
 pub refused-waiting : {number : ℕ} (a : ℕ) (t : Bool) (b : ℕ) → number ≡ orElse a (cond t 10 0) → (number ≡ 0 → ⊥)
@@ -34,26 +34,35 @@ passed-waiting a t b e z h = number-passes e z h ∙ regrouped a t 10 b (omega a
 numbered : (n k : ℕ) → inside n k ≡ true → Within n k
 numbered n k h = record { least = inside-low n k h; most = inside-high n k h }
 
--- 1, 2, 3, 4: a sound block of member i of a board of n
+-- 1, 2, 3: a sound block of a board of n
+pub record Lent (n i : ℕ) (l : List ℕ) : Type 0 where
+  pub block : Block n l
+  pub sound : soundMember n i (memberOf n (words l)) ≡ true
+
+pub lent : (n i : ℕ) (l : List ℕ) → lentNumber n i l ≡ 0 → Lent n i l
+unfolding lentNumber blockNumber
+lent n i l h =
+    let g = no-number _ h in
+    let p1 = no-failure (inside 12 n) (omega arith) (g .0) in
+    let p2 = no-failure (eqb (length l) (blockSize n)) (omega arith) (g .1) in
+    let p3 = no-failure (soundMember n i (memberOf n (words l))) (omega arith) (p2 .1) in
+    record {
+      block = record { least = inside-low 12 n (p1 .0); most = inside-high 12 n (p1 .0); long = eqb-true (length l) (blockSize n) (p2 .0) };
+      sound = p3 .0;
+    }
+
+-- and 4: of member i
 pub record Good (n i : ℕ) (l : List ℕ) : Type 0 where
   pub block : Block n l
   pub sound : soundMember n i (memberOf n (words l)) ≡ true
   pub member : Within n i
 
 pub good : (n i : ℕ) (l : List ℕ) → memberNumber n i l ≡ 0 → Good n i l
-unfolding memberNumber blockNumber
+unfolding memberNumber
 good n i l h =
-    let g1 = no-number _ h in
-    let p1 = no-failure (inside 12 n) (omega arith) (g1 .0) in
-    let g2 = no-number _ (g1 .1) in
-    let p2 = no-failure (eqb (length l) (blockSize n)) (omega arith) (g2 .0) in
-    let p3 = no-failure (soundMember n i (memberOf n (words l))) (omega arith) (p2 .1) in
-    let p4 = no-failure (inside n i) (omega arith) (g2 .1) in
-    record {
-      block = record { least = inside-low 12 n (p1 .0); most = inside-high 12 n (p1 .0); long = eqb-true (length l) (blockSize n) (p2 .0) };
-      sound = p3 .0;
-      member = numbered n i (p4 .0);
-    }
+    let g = no-number (lentNumber n i l) h in
+    let b = lent n i l (g .0) in
+    record { block = b .block; sound = b .sound; member = numbered n i (no-failure (inside n i) (omega arith) (g .1) .0) }
 
 -- a sound member in phase 1 to 5 runs an operation on a slot
 fourth-and-sixth : (a b c d e f g h : Bool) → (a && b && c && d && e && f && g && h) ≡ true → (d ≡ true) × (f ≡ true)
@@ -78,15 +87,13 @@ running n i l g h = record { block = g .block; slot = sound-slot n i (memberOf n
 
 -- What each call's step asks.
 
-pub begin-good : (n i : ℕ) (l : List ℕ) (r t : ℕ) → memberBeginNumber concur n i l r t ≡ 0
-    → (Block n l) × ((Within n r) × (memberOf n (words l) .own r + 1 < 2 ^ 32))
-unfolding memberBeginNumber
-begin-good n i l r t h =
+pub begin-good : (kind : Kind) → kind .limit < 2 ^ 32 → (n i : ℕ) (l : List ℕ) (r t : ℕ) → lentNumber n i l ≡ 0
+    → (let m = memberOf n (words l) in beginAnswer kind n (m .phase) (m .crashed) (m .own r) i r t) ≡ 0 → Begins n l r
+begin-good kind small n i l r t z h =
     let m = memberOf n (words l) in
-    let z = no-number (memberNumber n i l) h in
-    let k = begin-taken concur n (m .phase) (m .crashed) (m .own r) i r t (z .1) in
-    let room : m .own r < 4294967295 = k .room in
-    (good n i l (z .0) .block, (numbered n r (k .slot), omega arith))
+    let k = begin-taken kind n (m .phase) (m .crashed) (m .own r) i r t h in
+    let spare = k .room in
+    record { block = lent n i l z .block; slot = numbered n r (k .slot); room = omega arith }
 
 -- taking a message, in phase p
 waits : (p : ℕ) (m : Member) → notWaiting p m ≡ false → m .phase ≡ p

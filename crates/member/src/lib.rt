@@ -13,18 +13,22 @@ ghost use Rattle.model.specs.Halves.{outcomeNumber, outcomeWords, outcomeReturn
 ghost use Rattle.records.specs.Meaning.{recordFor};
 ghost use Rattle.member.specs.Results.{returnedIn};
 
+pub mod auction;
 mod halts;
+mod kinds;
 mod layout;
 mod marks;
 mod numbers;
 mod parts;
 pub mod steps;
 
-use numbers::begin_number;
+use kinds::begin_by;
 use numbers::crash_number;
 use numbers::outcome_number;
 use numbers::reply_number;
 use records::Record;
+use rules::LIMIT;
+use rules::MOST_MEMBERS;
 
 // What taking a reply hands back: its number, and how many pairs of counts the checks compared; none where it is refused.
 pub struct Replied {
@@ -63,12 +67,16 @@ pub fn begin(
     ensures { λ r. ⌜ r ≡ memberBeginNumber concur n member (now (block .entry)) slot operation ⌝ }
     ensures { λ r. ⌜ now (block .exit) ≡ memberBeginWords concur n member (now (block .entry)) slot operation (valueOf (words value)) ⌝ }
 {
-    let number = begin_number(block, n, member, slot, operation);
-    if number != 0 {
-        return number;
-    }
-    steps::begin(block, n as usize, slot, operation, value);
-    0
+    begin_by(
+        block,
+        LIMIT,
+        MOST_MEMBERS,
+        n,
+        member,
+        slot,
+        operation,
+        value,
+    )
 }
 
 pub fn take_reply(

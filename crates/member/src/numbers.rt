@@ -1,11 +1,13 @@
 // The numbers that refuse a call on a member's block, in document 01's order.
 ghost use mathlib.Core.Path.{_≡_};
 ghost use mathlib.Core.Bool.{cond};
-ghost use Rattle.model.specs.Kinds.{concur};
+ghost use Rattle.model.specs.Kinds.{Kind};
 ghost use Rattle.model.specs.Table.{memberIn};
 ghost use Rattle.model.specs.Numbers.{orElse};
-ghost use Rattle.model.specs.Halves.{notWaiting, memberNumber, memberBeginNumber, replyNumber, outcomeNumber, memberCrashNumber};
+ghost use Rattle.model.specs.Halves.{notWaiting, lentNumber, memberNumber, memberBeginNumber, replyNumber, outcomeNumber};
+ghost use Rattle.model.specs.Halves.{memberCrashNumber};
 ghost use Rattle.records.specs.Meaning.{recordFor};
+ghost use Rattle.member.specs.Needs.{Begins};
 use crate::layout::CRASHED_AT;
 use crate::layout::PHASE_AT;
 use crate::layout::layout;
@@ -15,10 +17,11 @@ use crate::steps::sound_block;
 use records::Record;
 use rules::MOST_MEMBERS;
 use rules::is_numbered;
+use rules::kind_number;
 
-// 1, 2, 3, 4: the board's size, the block, the member.
-fn member_number(block: &[u32], n: u32, member: u32) -> u32
-    ensures { λ r. ⌜ r ≡ memberNumber n member (now (block .entry)) ⌝ }
+// 1, 2, 3: the board's size, the block.
+fn lent_number(block: &[u32], n: u32, member: u32) -> u32
+    ensures { λ r. ⌜ r ≡ lentNumber n member (now (block .entry)) ⌝ }
 {
     if !is_numbered(n, MOST_MEMBERS) {
         return 1;
@@ -31,20 +34,46 @@ fn member_number(block: &[u32], n: u32, member: u32) -> u32
     if !sound_block(block, n, member) {
         return 3;
     }
+    0
+}
+
+// 1, 2, 3, 4: and the member.
+fn member_number(block: &[u32], n: u32, member: u32) -> u32
+    ensures { λ r. ⌜ r ≡ memberNumber n member (now (block .entry)) ⌝ }
+{
+    let number = lent_number(block, n, member);
+    if number != 0 {
+        return number;
+    }
     if !is_numbered(member, n) {
         return 4;
     }
     0
 }
 
-pub fn begin_number(block: &[u32], n: u32, member: u32, slot: u32, operation: u32) -> u32
-    ensures { λ r. ⌜ r ≡ memberBeginNumber concur n member (now (block .entry)) slot operation ⌝ }
+// Begin on a board of a kind, by its limit and its most members: 1, 2, 3, the kind's 1, and from 4 on.
+pub fn begin_number(
+    block: &[u32],
+    limit: u32,
+    most: u32,
+    n: u32,
+    member: u32,
+    slot: u32,
+    operation: u32,
+) -> u32
+    ensures { λ r. ⌜ ((kind : Kind) → limit ≡ kind .limit → most ≡ kind .most
+        → r ≡ memberBeginNumber kind n member (now (block .entry)) slot operation) ⌝ }
+    ensures { λ r. ⌜ (r ≡ 0 → Begins n (now (block .entry)) slot) ⌝ }
 {
-    let number = member_number(block, n, member);
+    let number = lent_number(block, n, member);
     if number != 0 {
         return number;
     }
-    begin_answer_on(block, n, member, slot, operation)
+    let number = kind_number(most, n);
+    if number != 0 {
+        return number;
+    }
+    begin_answer_on(block, limit, n, member, slot, operation)
 }
 
 // 1 to 4, and 10: the member is in another phase than the message needs, or has crashed.

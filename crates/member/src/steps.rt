@@ -1,17 +1,17 @@
 // The member's steps without their tests, in place on its block: what the public calls and the board do once nothing refuses.
 ghost use mathlib.Core.Path.{_≡_};
-ghost use Prim.Native.Nat.{_+_, _<_, _≤_, _^_};
+ghost use Prim.Native.Nat.{_≤_};
 ghost use Rattle.lists.specs.Parts.{words};
 ghost use Rattle.model.specs.RecordWords.{valueOf};
 ghost use Rattle.model.specs.Member.{begun, answered, replied, judged, outcome, returnedBy, crashedOf};
 ghost use Rattle.model.specs.Pairs.{haltPairs};
-ghost use Rattle.model.specs.Kinds.{concur};
+ghost use Rattle.model.specs.Kinds.{Kind};
 ghost use Rattle.model.specs.Numbers.{beginAnswer, deliverAnswer, crashAnswer};
 ghost use Rattle.model.specs.Board.{sentRecord};
 ghost use Rattle.model.specs.Table.{blockSize, memberIn, soundMember};
 ghost use Rattle.records.specs.Meaning.{recordIn, recordFor};
 ghost use Rattle.lists.specs.Functions.{Within};
-ghost use Rattle.member.specs.Needs.{Block, Running};
+ghost use Rattle.member.specs.Needs.{Block, Begins, Running};
 ghost use Rattle.member.specs.Results.{Taken};
 use crate::Outcome;
 use crate::halts::halt_of;
@@ -107,14 +107,24 @@ pub fn phase_of(block: &[u32], n: usize) -> u32
     block[PHASE_AT]
 }
 
-// What a begin, a deliver and a crash are answered on a block whose own numbers passed: the numbers from 4 on.
-pub fn begin_answer_on(block: &[u32], n: u32, member: u32, slot: u32, operation: u32) -> u32
+// What a begin, a deliver and a crash are answered on a block whose own numbers passed: the numbers from 4 on. A begin's limit is its
+// kind's.
+pub fn begin_answer_on(
+    block: &[u32],
+    limit: u32,
+    n: u32,
+    member: u32,
+    slot: u32,
+    operation: u32,
+) -> u32
     requires { ⌜ Block n (now block) ⌝ }
     ensures { λ r. let m = memberIn n (now (block .entry)) in
-        ⌜ r ≡ beginAnswer concur n (m .phase) (m .crashed) (m .own slot) member slot operation ⌝ }
+        ⌜ ((kind : Kind) → limit ≡ kind .limit
+        → r ≡ beginAnswer kind n (m .phase) (m .crashed) (m .own slot) member slot operation) ⌝ }
 {
     let count = own_count(block, n, slot);
     begin_answer(
+        limit,
         n,
         block[PHASE_AT],
         block[CRASHED_AT],
@@ -170,7 +180,7 @@ pub fn commit_of(block: &[u32], n: usize, member: u32) -> Record
 
 // The start of an operation.
 pub fn begin(block: &mut [u32], n: usize, slot: u32, operation: u32, value: [u32; 8])
-    requires { ⌜ (Block n (now block)) × ((Within n slot) × (memberIn n (now block) .own slot + 1 < 2 ^ 32)) ⌝ }
+    requires { ⌜ Begins n (now block) slot ⌝ }
     ensures { λ _. ⌜ memberIn n (now (block .exit)) ≡ begun (memberIn n (now (block .entry))) slot operation (valueOf (words value)) ⌝ }
 {
     let at = layout(n);

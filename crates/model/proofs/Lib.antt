@@ -4,9 +4,11 @@ pub mod Pairs
 pub mod PairClaims
 pub mod Order
 pub mod Joined
+pub mod NumberTables
 pub mod NumberClaims
 pub mod LengthClaims
 pub mod Answers
+pub mod KindClaims
 pub mod Invariant
 pub mod InvariantMember
 pub mod InvariantSubmit

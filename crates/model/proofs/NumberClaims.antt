@@ -1,6 +1,5 @@
--- The numbers that begin, deliver and crash are answered with are those of document 01's table. Each call is a list of rows, a number and
--- its grounds: the grounds give the number by computing, and of every call some row's grounds hold, by going through the tests. Since
--- the numbers differ, a number then has its grounds too.
+-- The numbers that begin, deliver and crash are answered with are those of document 01's table. Each call is a list of rows
+-- (NumberTables.antt): the grounds give the number by computing, and of every call some row's grounds hold, by going through the tests.
 use Prim.Native.Nat.{ℕ, _≤_, _<_}
 use mathlib.Core.Path.{_≡_, refl, sym, _∙_}
 use mathlib.Core.Bool.{Bool, true, false, cond, not, _&&_, _||_}
@@ -11,106 +10,24 @@ use lib.Dec.{eqb, leb}
 use borrow.Author.Tests.{eqb-true, eqb-false, eq-eqb, ne-eqb, leb-true, leb-false, le-leb, lt-leb}
 use Rattle.lists.specs.Functions.{inside}
 use Rattle.lists.proofs.Functions.{_and_, on, apart, inside-in, inside-low, inside-high}
-use Rattle.model.specs.Kinds.{Kind, concur, isOperation, barred}
+use Rattle.model.specs.Kinds.{Kind, concur, auction, isOperation, barred}
 use Rattle.model.specs.Numbers.{fieldsNumber, beginAnswer, deliverAnswer, crashAnswer}
 use Rattle.model.specs.NumberClaims.{OneTo, Barred, Allowed, NothingToDeliver, BeginNumbers, DeliverNumbers, CrashNumbers}
 use Rattle.model.specs.NumberClaims.{NumbersAsListed}
-
--- A table's rows.
-
-abbrev Rows : Type 1
-Rows = List (ℕ × Type 0)
-
--- the grounds of some row hold
-unfoldable Some : Rows → Type 0
-Some [] = ⊥
-Some (row ∷ rows) = row .1 ⊎ Some rows
-
--- the grounds of each give its number
-unfoldable Give : ℕ → Rows → Type 0
-Give answer [] = Unit {0}
-Give answer (row ∷ rows) = (row .1 → answer ≡ row .0) × Give answer rows
-
--- the numbers differ
-unfoldable Off : ℕ → Rows → Type 0
-Off number [] = Unit {0}
-Off number (row ∷ rows) = (number ≡ row .0 → ⊥) × Off number rows
-
-unfoldable Distinct : Rows → Type 0
-Distinct [] = Unit {0}
-Distinct (row ∷ rows) = Off (row .0) rows × Distinct rows
-
--- each number is the answer exactly on its grounds
-unfoldable Exactly : ℕ → Rows → Type 0
-Exactly answer [] = Unit {0}
-Exactly answer (row ∷ rows) = ((answer ≡ row .0) ↔ row .1) × Exactly answer rows
-
--- where the answer is none of the rows' numbers
-none-of : (answer number : ℕ) (rows : Rows) → answer ≡ number → Off number rows → Give answer rows → Exactly answer rows
-unfolding Off Give Exactly
-none-of answer number [] e off give = tt
-none-of answer number (row ∷ rows) e off give =
-    ((λ d. absurd (off .0 (sym e ∙ d)), give .0), none-of answer number rows e (off .1) (give .1))
-
--- and where it is one of them
-one-of : (answer number : ℕ) (rows : Rows) → Off number rows → Give answer rows → Some rows → answer ≡ number → ⊥
-unfolding Off Give Some
-one-of answer number [] off give some e = some
-one-of answer number (row ∷ rows) off give some e = ⊎-elim
-    (λ ground. off .0 (sym e ∙ give .0 ground))
-    (λ rest. one-of answer number rows (off .1) (give .1) rest e)
-    some
-
-exactly : (answer : ℕ) (rows : Rows) → Distinct rows → Give answer rows → Some rows → Exactly answer rows
-unfolding Distinct Give Some Exactly
-exactly answer [] distinct give some = tt
-exactly answer (row ∷ rows) distinct give some = ⊎-elim
-    (λ ground. ((λ e. ground, give .0), none-of answer (row .0) rows (give .0 ground) (distinct .0) (give .1)))
-    (λ rest. (
-      (λ e. absurd (one-of answer (row .0) rows (distinct .0) (give .1) rest e), give .0),
-      exactly answer rows (distinct .1) (give .1) rest,
-    ))
-    some
-
--- an answer that some row gives has whatever holds of every row's number
-unfoldable All : (ℕ → Type 0) → Rows → Type 0
-All Q [] = Unit {0}
-All Q (row ∷ rows) = Q (row .0) × All Q rows
-
-listed : (Q : ℕ → Type 0) (answer : ℕ) (rows : Rows) → All Q rows → Give answer rows → Some rows → Q answer
-unfolding All Give Some
-listed Q answer [] all give some = absurd some
-listed Q answer (row ∷ rows) all give some =
-    ⊎-elim (λ ground. rw (give .0 ground) (all .0)) (listed Q answer rows (all .1) (give .1)) some
-
--- a call with one number beside 4: all that is claimed of it
-module _ (answer k : ℕ) (A B C : Type 0) where
-  abbrev three : Rows
-  three = (4, A) ∷ (k, B) ∷ (0, C) ∷ []
-
-  three-rows : (k ≡ 4 → ⊥) → (k ≡ 0 → ⊥) → Give answer three → Some three
-      → ((answer ≡ 4) ↔ A) × ((answer ≡ k) ↔ B) × ((answer ≡ 0) ↔ C) × ((answer ≡ 0) ⊎ (answer ≡ 4) ⊎ (answer ≡ k))
-  unfolding Distinct Off Exactly All
-  three-rows four zero give some =
-      let e = exactly answer three (omega arith) give some in (
-        e .0,
-        e .1 .0,
-        e .1 .1 .0,
-        listed (λ x. (x ≡ 0) ⊎ (x ≡ 4) ⊎ (x ≡ k)) answer three (inr (inl refl) and inr (inr refl) and inl refl and tt) give some,
-      )
+use Rattle.model.proofs.NumberTables.{Rows, Some, Give, Off, Distinct, Exactly, All, exactly, listed, three-rows}
 
 -- The tests, and what they mean.
 
-one-to : (n k : ℕ) → inside n k ≡ true → OneTo n k
+pub one-to : (n k : ℕ) → inside n k ≡ true → OneTo n k
 one-to n k h = (inside-low n k h, inside-high n k h)
 
-none-such : (n k : ℕ) → inside n k ≡ false → OneTo n k → ⊥
+pub none-such : (n k : ℕ) → inside n k ≡ false → OneTo n k → ⊥
 none-such n k h o = apart (inside-in n k (o .0) (o .1)) h
 
 pub is-inside : {n k : ℕ} → OneTo n k → inside n k ≡ true
 is-inside {n} {k} o = inside-in n k (o .0) (o .1)
 
-not-inside : (n k : ℕ) → (OneTo n k → ⊥) → inside n k ≡ false
+pub not-inside : (n k : ℕ) → (OneTo n k → ⊥) → inside n k ≡ false
 not-inside n k h = on (inside n k) (λ p. absurd (h (one-to n k p))) (λ p. p)
 
 not-operation : (t : ℕ) → (t ≡ 1 → ⊥) → (t ≡ 2 → ⊥) → isOperation t ≡ false
@@ -284,7 +201,7 @@ module _ (n phase crashed i : ℕ) where
 
   deliver-numbers : DeliverNumbers n phase crashed i (deliverAnswer n phase crashed i)
   deliver-numbers =
-      let e = three-rows (deliverAnswer n phase crashed i) 10 _ _ _ (λ d. omega arith) (λ d. omega arith) deliver-gives deliver-some in
+      let e = three-rows (deliverAnswer n phase crashed i) 4 10 _ _ _ (omega arith) deliver-gives deliver-some in
       record { four = e .0; ten = e .1; done = e .2; noOther = e .3 }
 
   abbrev crash-rows : Rows
@@ -318,13 +235,14 @@ module _ (n phase crashed i : ℕ) where
 
   crash-numbers : CrashNumbers n phase crashed i (crashAnswer n phase crashed i)
   crash-numbers =
-      let e = three-rows (crashAnswer n phase crashed i) 11 _ _ _ (λ d. omega arith) (λ d. omega arith) crash-gives crash-some in
+      let e = three-rows (crashAnswer n phase crashed i) 4 11 _ _ _ (omega arith) crash-gives crash-some in
       record { four = e .0; eleven = e .1; done = e .2; noOther = e .3 }
 
 pub numbers-as-listed : (n : ℕ) → NumbersAsListed n
 numbers-as-listed n = record {
   begins = λ kind. begin-numbers kind n;
   concurBegins = begin-numbers concur n;
+  auctionBegins = begin-numbers auction n;
   delivers = deliver-numbers n;
   crashes = crash-numbers n;
 }

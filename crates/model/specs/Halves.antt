@@ -10,7 +10,7 @@ use lib.ListN.{length}
 use Rattle.lists.specs.Functions.{put, inside}
 use Rattle.model.specs.Records.{Value, Rec}
 use Rattle.model.specs.Kinds.{Kind, isSize, fitFields}
-use Rattle.model.specs.Numbers.{orElse, fieldsNumber, beginAnswer, crashAnswer}
+use Rattle.model.specs.Numbers.{orElse, fieldsNumber, kindNumber, beginAnswer, crashAnswer}
 use Rattle.model.specs.Member.{Member, begun, replied, outcome, returnedBy, crashedOf}
 use Rattle.model.specs.Pairs.{haltPairs}
 use Rattle.model.specs.Host.{submitted, wins, entryAfter, storedAfter}
@@ -26,17 +26,21 @@ fitRecord n r = fitFields n (r .member) (r .slot) (r .operation)
 
 -- The member half, on the words l of member i's block.
 
--- 1, 2, 3, 4
-unfoldable pub memberNumber : ℕ → ℕ → List ℕ → ℕ
-memberNumber n i l =
-    orElse (cond (not (isSize n)) 1 0)
-    (orElse (blockNumber n i (length l) (memberIn n l))
-    (cond (not (inside n i)) 4 0))
+-- 1, 2, 3: what is lent
+unfoldable pub lentNumber : ℕ → ℕ → List ℕ → ℕ
+lentNumber n i l = orElse (cond (not (isSize n)) 1 0) (blockNumber n i (length l) (memberIn n l))
 
+-- and 4
+unfoldable pub memberNumber : ℕ → ℕ → List ℕ → ℕ
+memberNumber n i l = orElse (lentNumber n i l) (cond (not (inside n i)) 4 0)
+
+-- 1, 2, 3, the kind's 1, and from 4 on
 unfoldable pub memberBeginNumber : Kind → ℕ → ℕ → List ℕ → ℕ → ℕ → ℕ
 memberBeginNumber kind n i l r t =
     let m = memberIn n l in
-    orElse (memberNumber n i l) (beginAnswer kind n (m .phase) (m .crashed) (m .own r) i r t)
+    orElse (lentNumber n i l)
+    (orElse (kindNumber kind n)
+    (beginAnswer kind n (m .phase) (m .crashed) (m .own r) i r t))
 
 unfoldable pub memberBeginWords : Kind → ℕ → ℕ → List ℕ → ℕ → ℕ → Value → List ℕ
 memberBeginWords kind n i l r t v =

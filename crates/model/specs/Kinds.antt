@@ -1,4 +1,4 @@
--- The kind of board: what may differ between boards that share all their steps. An opening looks at its `most`, a begin at its `limit`,
+-- The kind of board: what may differ between boards that share all their steps. An opening looks at its `most`, a begin at both numbers,
 -- and no other step at anything of it; runs, the reference and the theorems are stated for every kind. Below it, the rules that are the
 -- same for all kinds: the sizes of boards, what is an operation, which fields fit, what number 7 refuses, what becomes
 -- stored.
@@ -19,13 +19,17 @@ isSize n = inside mostMembers n
 pub record Kind : Type 0 where
   -- begin answers 9 where the own count has reached this
   pub limit : ℕ
-  -- opening answers 1 where there are more members than this, and no kind has more than there are sizes
+  -- opening and begin answer 1 where there are more members than this, and no kind has more than there are sizes
   pub most : ℕ
   pub sized : most ≤ mostMembers
 
 -- the board of document 01: "9 own count is 4,294,967,295", "1 n not 1 to 12"
 abbrev pub concur : Kind
 concur = record { limit = 4294967295; most = mostMembers; sized = omega arith }
+
+-- document 02, (b), the auction desk's: "closed after 9,999 operations per slot and member", "refuse 1 above 4 members"
+abbrev pub auction : Kind
+auction = record { limit = 9999; most = 4; sized = omega arith }
 
 -- "type not 1 or 2" is number 6
 unfoldable pub isOperation : ℕ → Bool

@@ -19,6 +19,7 @@ pub mod RecordWords
 pub mod Table
 pub mod Halves
 pub mod TableCalls
+pub mod KindClaims
 pub mod Script
 pub mod Messages
 pub mod LengthClaims

@@ -4,7 +4,7 @@
 use Prim.Native.Nat.{ℕ, _≤_, _<_}
 use mathlib.Core.Path.{_≡_}
 use mathlib.Core.Logic.{_↔_, _⊎_}
-use Rattle.model.specs.Kinds.{Kind, concur}
+use Rattle.model.specs.Kinds.{Kind, concur, auction}
 use Rattle.model.specs.Numbers.{beginAnswer, deliverAnswer, crashAnswer}
 
 -- there is a member k, and a slot k, on a board of n
@@ -57,5 +57,8 @@ pub record NumbersAsListed (n : ℕ) : Type 0 where
   -- document 01's board: "9 own count is 4,294,967,295"
   pub concurBegins : (phase crashed count i r t : ℕ)
       → BeginNumbers 4294967295 n phase crashed count i r t (beginAnswer concur n phase crashed count i r t)
+  -- document 02, (b): "9 where the own count is 9,999 or more"
+  pub auctionBegins : (phase crashed count i r t : ℕ)
+      → BeginNumbers 9999 n phase crashed count i r t (beginAnswer auction n phase crashed count i r t)
   pub delivers : (phase crashed i : ℕ) → DeliverNumbers n phase crashed i (deliverAnswer n phase crashed i)
   pub crashes : (phase crashed i : ℕ) → CrashNumbers n phase crashed i (crashAnswer n phase crashed i)

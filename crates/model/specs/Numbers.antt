@@ -1,6 +1,6 @@
 -- The number that a call is answered with: document 01's "Numbers by the place of the check", from number 4 on, top down. 0 is the
 -- answer where no ground holds. Each is a function of the member's phase and crash mark, of its own count on the slot, and of the
--- arguments, so that the contracts, the board and the reference share it.
+-- arguments, so that the contracts, the board and the reference share it. Before number 4 a begin asks whether its kind has so many members.
 use Prim.Native.Nat.{ℕ}
 use mathlib.Core.Bool.{cond, not, _&&_, _||_}
 use lib.Dec.{eqb, leb}
@@ -19,6 +19,11 @@ fieldsNumber n i r t =
     (cond (not (isOperation t)) 6
     (cond (barred i r t) 7
     0)))
+
+-- begin, on a board of n that the numbers 2 and 3 have passed: document 02, (b), "Its own opening and begin refuse 1 above 4 members, in
+-- begin after 3". Document 01's begin never does, since no board has more than 12.
+unfoldable pub kindNumber : Kind → ℕ → ℕ
+kindNumber kind n = cond (not (leb n (kind .most))) 1 0
 
 -- begin, by member i, on slot r, of type t: then "8 not in phase 0, or crashed", and 9
 unfoldable pub beginAnswer : Kind → ℕ → ℕ → ℕ → ℕ → ℕ → ℕ → ℕ → ℕ

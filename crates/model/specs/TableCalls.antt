@@ -10,9 +10,9 @@ use Rattle.lists.specs.Functions.{inside, within}
 use Rattle.lists.specs.Parts.{words}
 use Rattle.model.specs.Records.{Value}
 use Rattle.model.specs.Kinds.{Kind}
-use Rattle.model.specs.Numbers.{orElse}
+use Rattle.model.specs.Numbers.{orElse, kindNumber}
 use Rattle.model.specs.Board.{Board, opened}
-use Rattle.model.specs.Runs.{Call, Seen, answerOf, done, doneReturns}
+use Rattle.model.specs.Runs.{Call, begin, deliver, crash, Seen, answerOf, done, doneReturns}
 use Rattle.model.specs.Table.{tableSize, blockAt, phaseAt, boardBy, tableWords, tableNumber}
 use Rattle.model.specs.Halves.{unlessRefused}
 
@@ -30,9 +30,19 @@ openWords kind n l = unlessRefused (openNumber kind n l) l (tableWords n (opened
 unfoldable pub boardIn : List ℕ → Board
 boardIn l = boardBy (words l 0) l
 
--- begin, deliver and crash: the table's own numbers, then the call's
+-- what refuses a begin whatever its arguments: the table's own numbers, 3, 2 and 3, then the kind's 1
+unfoldable pub beginNumber : Kind → List ℕ → ℕ
+beginNumber kind l = orElse (tableNumber l) (kindNumber kind (words l 0))
+
+-- and what refuses any call so: document 02, (b), "All other steps serve both."
+unfoldable pub callNumber : Kind → List ℕ → Call → ℕ
+callNumber kind l (begin i r t v) = beginNumber kind l
+callNumber kind l (deliver i) = tableNumber l
+callNumber kind l (crash i) = tableNumber l
+
+-- begin, deliver and crash: these numbers, then those from 4 on
 unfoldable pub tableAnswer : Kind → List ℕ → Call → ℕ
-tableAnswer kind l call = orElse (tableNumber l) (answerOf kind (words l 0) (boardIn l) call)
+tableAnswer kind l call = orElse (callNumber kind l call) (answerOf kind (words l 0) (boardIn l) call)
 
 unfoldable pub tableAfter : Kind → List ℕ → Call → List ℕ
 tableAfter kind l call =

@@ -1,15 +1,20 @@
-// The rules that both halves share, as Kinds.antt and Numbers.antt have them: the sizes of boards, the types of operation, what number 7
-// refuses, and the numbers from 4 on that answer a begin, a deliver and a crash, by the member's numbers and the arguments.
+// The rules that both halves share, as Kinds.antt and Numbers.antt have them: the kinds of board, the types of operation, what number 7
+// refuses, and the numbers that answer a begin, a deliver and a crash, by the member's numbers and the arguments.
 ghost use mathlib.Core.Path.{_≡_};
 ghost use Rattle.lists.specs.Functions.{inside};
-ghost use Rattle.model.specs.Kinds.{concur, isOperation, fitFields, barred};
-ghost use Rattle.model.specs.Numbers.{fieldsNumber, beginAnswer, deliverAnswer, crashAnswer};
+ghost use Rattle.model.specs.Kinds.{Kind, isOperation, fitFields, barred};
+ghost use Rattle.model.specs.Numbers.{fieldsNumber, kindNumber, beginAnswer, deliverAnswer, crashAnswer};
 
 // The most members of a board.
 pub const MOST_MEMBERS: u32 = 12;
 
 // Number 9 is answered where the own count has reached this.
 pub const LIMIT: u32 = 4294967295;
+
+// The same two of an auction board.
+pub const AUCTION_MEMBERS: u32 = 4;
+
+pub const AUCTION_LIMIT: u32 = 9999;
 
 // The types of operation.
 pub const READ: u32 = 1;
@@ -78,7 +83,19 @@ pub fn fields_number(n: u32, member: u32, slot: u32, operation: u32) -> u32
     0
 }
 
+// A begin's 1: a board of n has more members than its kind may have.
+pub fn kind_number(most: u32, n: u32) -> u32
+    ensures { λ r. ⌜ ((kind : Kind) → most ≡ kind .most → r ≡ kindNumber kind n) ⌝ }
+{
+    if most < n {
+        return 1;
+    }
+    0
+}
+
+// 4 to 9, 9 where the own count has reached the kind's limit.
 pub fn begin_answer(
+    limit: u32,
     n: u32,
     phase: u32,
     crashed: u32,
@@ -87,7 +104,7 @@ pub fn begin_answer(
     slot: u32,
     operation: u32,
 ) -> u32
-    ensures { λ r. ⌜ r ≡ beginAnswer concur n phase crashed count member slot operation ⌝ }
+    ensures { λ r. ⌜ ((kind : Kind) → limit ≡ kind .limit → r ≡ beginAnswer kind n phase crashed count member slot operation) ⌝ }
 {
     let number = fields_number(n, member, slot, operation);
     if number != 0 {
@@ -99,7 +116,7 @@ pub fn begin_answer(
     if crashed != 0 {
         return 8;
     }
-    if LIMIT <= count {
+    if limit <= count {
         return 9;
     }
     0

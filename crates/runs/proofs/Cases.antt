@@ -1,7 +1,7 @@
 -- Every case of the table holds: the test of each is computed, and a test that passes means equal lines.
 use Prim.Native.Nat.{ℕ, zero, suc, _<_}
 use mathlib.Core.Path.{_≡_, refl}
-use mathlib.Core.Bool.{Bool, true, false≢true}
+use mathlib.Core.Bool.{Bool, true, _&&_, false≢true}
 use mathlib.Core.List.{List, [], _∷_}
 use native.Mathlib.Omega.{arith}
 use lib.Dec.{eqb}
@@ -13,7 +13,7 @@ use Rattle.lists.specs.Pieces.{laid}
 use Rattle.lists.proofs.Functions.{first, second}
 use Rattle.model.specs.Rows.{zeroRow, zeroMatrix, below, matrixBelow, comparable, larger}
 use Rattle.model.specs.Records.{zeroValue, zeroRecord, opening}
-use Rattle.model.specs.Kinds.{isOperation, barred, becomesStored}
+use Rattle.model.specs.Kinds.{Kind, concur, auction, isOperation, barred, becomesStored}
 use Rattle.model.specs.Numbers.{fieldsNumber, beginAnswer, deliverAnswer, crashAnswer}
 use Rattle.model.specs.Member.{idle, begun, answered, check21, check22, check23, check24, check25, check26, check27, haltNumber, joined}
 use Rattle.model.specs.Member.{ownRecord, passed, failed, replied, judged, completed, tookOver, dropped, outcome, returnedBy, crashedOf}
@@ -34,8 +34,9 @@ use Rattle.model.specs.Script.{caller}
 use Rattle.runs.specs.Case.{left, changed, opensOf, answerTo, lastWord, line, printed, rowsOf, recordLine, recordLines, begunLine}
 use Rattle.runs.specs.Case.{decidedLine, submitLine, unless, failingOf, takingOf, lookingOf, found, every, alike, Case, Holds, holds}
 use Rattle.runs.specs.Cases.{cases, example}
+use Rattle.runs.specs.AuctionCases.{auctionCases}
 
-pub all-pass : every holds cases ≡ true
+pub all-pass : (every (holds concur) cases && every (holds auction) auctionCases) ≡ true
 unfolding put from within inside each looked tabulate zeroRow zeroMatrix below matrixBelow comparable larger zeroValue zeroRecord opening
     isOperation barred becomesStored fieldsNumber beginAnswer deliverAnswer crashAnswer idle begun answered check21 check22 check23 check24
     check25 check26 check27 haltNumber pairs22 pairs23 rowPairs25 pairs25 pairs26 pairs27 ifMade haltPairs joined ownRecord passed failed
@@ -72,14 +73,19 @@ module _ {A : Type 0} where
   every-at P (x ∷ xs) h d (suc k) p = every-at P xs (h .1) d k (omega arith)
 
 -- a case that passes its test holds
-passes : (c : Case) → holds c ≡ true → Holds c
+passes : (kind : Kind) (c : Case) → holds kind c ≡ true → Holds kind c
 unfolding holds
-passes c = every-of (λ q. alike (alike eqb) (found c (q .question)) (q .lines)) (λ q. found c (q .question) ≡ q .lines)
-    (λ q. alike-same (alike eqb) (alike-same eqb eqb-true) (found c (q .question)) (q .lines)) (c .claims)
+passes kind c = every-of (λ q. alike (alike eqb) (found kind c (q .question)) (q .lines)) (λ q. found kind c (q .question) ≡ q .lines)
+    (λ q. alike-same (alike eqb) (alike-same eqb eqb-true) (found kind c (q .question)) (q .lines)) (c .claims)
 
--- Every case of the table holds, and so each row of it.
-pub every-case : Every Holds cases
-every-case = every-of holds Holds passes cases all-pass
+-- Every case of the table holds, and so each row of it; and every case of auction boards.
+pub every-case : Every (Holds concur) cases
+every-case = every-of (holds concur) (Holds concur) (passes concur) cases
+    (first (every (holds concur) cases) (every (holds auction) auctionCases) all-pass)
 
-pub case-at : (k : ℕ) → k < length cases → Holds (getD cases k example)
-case-at = every-at Holds cases every-case example
+pub case-at : (k : ℕ) → k < length cases → Holds concur (getD cases k example)
+case-at = every-at (Holds concur) cases every-case example
+
+pub every-auction-case : Every (Holds auction) auctionCases
+every-auction-case = every-of (holds auction) (Holds auction) (passes auction) auctionCases
+    (second (every (holds concur) cases) (every (holds auction) auctionCases) all-pass)

@@ -1,4 +1,5 @@
 pub mod Cases
+pub mod AuctionCases
 pub mod Sound
 pub mod Held
 pub mod Tables

@@ -8,19 +8,21 @@ use mathlib.Core.List.{List, [], _∷_}
 use mathlib.Core.Option.{none}
 use lib.Dec.{eqb}
 use lib.ListN.{length}
-use borrow.Author.Tests.{eq-eqb}
+use borrow.Author.Tests.{eq-eqb, le-leb}
 use Rattle.lists.specs.Functions.{inside, from}
 use Rattle.lists.specs.Parts.{words}
 use Rattle.lists.proofs.Functions.{on, inside-low, inside-high, within-at, within-off, inside-in}
-use Rattle.model.specs.Kinds.{mostMembers, isSize, Kind}
+use Rattle.lists.proofs.Refusals.{no-failure}
+use Rattle.model.specs.Kinds.{mostMembers, isSize, Kind, concur, auction}
+use Rattle.model.specs.Numbers.{kindNumber}
 use Rattle.model.specs.Member.{idle}
 use Rattle.model.specs.Board.{Board, opened}
-use Rattle.model.specs.Runs.{Call, answerOf, doneReturns, after, seenAt, run, boards}
+use Rattle.model.specs.Runs.{Call, begin, deliver, crash, answerOf, doneReturns, after, seenAt, run, boards}
 use Rattle.lists.specs.Every.{Every}
 use Rattle.model.specs.Demand3.{Demand3}
 use Rattle.model.specs.Table.{tableSize, blockAt, phaseAt, memberOf, tableWords, tableNumber}
-use Rattle.model.specs.TableCalls.{openNumber, openWords, boardIn, tableAnswer, tableAfter, tableReturns, phaseWords, tableSeen}
-use Rattle.model.specs.TableCalls.{tableRun, tableBoards}
+use Rattle.model.specs.TableCalls.{openNumber, openWords, boardIn, beginNumber, callNumber, tableAnswer, tableAfter, tableReturns}
+use Rattle.model.specs.TableCalls.{phaseWords, tableSeen, tableRun, tableBoards}
 use Rattle.model.proofs.Demand3.{demand3}
 use Rattle.model.proofs.Steps.{stepped}
 use Rattle.laws.proofs.Tables.{length-table, table-zero, member-at}
@@ -55,12 +57,30 @@ module _ (n : ℕ) where
       within-off n 0 (λ k. words (tableWords n b) (blockAt n k + phaseAt)) k p
       ∙ sym (ap (λ m. m .phase) (h .membersOff k p))))
 
-module _ (kind : Kind) (n : ℕ) (size : isSize n ≡ true) where
+-- a board of a kind has one of the sizes that there are
+kind-size : (kind : Kind) (n : ℕ) → inside (kind .most) n ≡ true → isSize n ≡ true
+kind-size kind n p =
+    let most = kind .sized in
+    let high = inside-high (kind .most) n p in
+    inside-in mostMembers n (inside-low (kind .most) n p) (omega arith)
+
+module _ (kind : Kind) (n : ℕ) (size : inside (kind .most) n ≡ true) where
+  -- nothing refuses a call whatever its arguments
+  none-refuses : (b : Board) → SoundBoard n b → HeldBoard n b → (call : Call) → callNumber kind (tableWords n b) call ≡ 0
+  unfolding callNumber beginNumber kindNumber
+  none-refuses b s h (begin i r t v) = rw (
+    table-number n (kind-size kind n size) b s h,
+    table-zero n b,
+    le-leb n (kind .most) (inside-high (kind .most) n size),
+  )
+  none-refuses b s h (deliver i) = table-number n (kind-size kind n size) b s h
+  none-refuses b s h (crash i) = table-number n (kind-size kind n size) b s h
+
   -- a call's answer, what it leaves and what it returns are the board's
   same-answer : (b : Board) → SoundBoard n b → HeldBoard n b → (call : Call)
       → tableAnswer kind (tableWords n b) call ≡ answerOf kind n b call
   unfolding tableAnswer
-  same-answer b s h call = rw (table-number n size b s h, board-in n b h, table-zero n b)
+  same-answer b s h call = rw (none-refuses b s h call, board-in n b h, table-zero n b)
 
   pub same-after : (b : Board) → SoundBoard n b → HeldBoard n b → (call : Call)
       → tableAfter kind (tableWords n b) call ≡ tableWords n (after kind n b call)
@@ -105,18 +125,13 @@ module _ (kind : Kind) (n : ℕ) (size : isSize n ≡ true) where
       (ap (λ l. tableBoards kind l calls) (same-after b s h call)
       ∙ same-boards (after kind n b call) (after-sound b s call) (after-held b s h call (v .0)) calls (v .1)) t
 
--- a board of a kind has one of the sizes that there are
-kind-size : (kind : Kind) (n : ℕ) → inside (kind .most) n ≡ true → isSize n ≡ true
-kind-size kind n p =
-    let most = kind .sized in
-    let high = inside-high (kind .most) n p in
-    inside-in mostMembers n (inside-low (kind .most) n p) (omega arith)
-
-pub open-size : (kind : Kind) (n : ℕ) (l : List ℕ) → openNumber kind n l ≡ 0 → isSize n ≡ true
+-- the size of a board that opening took
+pub open-size : (kind : Kind) (n : ℕ) (l : List ℕ) → openNumber kind n l ≡ 0 → inside (kind .most) n ≡ true
 unfolding openNumber
-open-size kind n l o = on (inside (kind .most) n) (kind-size kind n) (λ p. absurd (let z : _≡_ {A = ℕ} 1 0 = rw p at o in omega arith))
+open-size kind n l o = no-failure (inside (kind .most) n) (omega arith) o .0
 
--- Demand 3 of every table that opening took, for every kind, every n and every list of calls whose values have 8 words.
+-- Demand 3 of every table that opening took, for every kind, every n and every list of calls whose values have 8 words. The kind's limit and
+-- its most members are left open.
 pub demand3-on-tables : (kind : Kind) (n : ℕ) (l : List ℕ) → openNumber kind n l ≡ 0 → (calls : List Call) → Every CallHeld calls
     → Demand3 kind n calls (tableBoards kind (openWords kind n l) calls) (tableRun kind (openWords kind n l) calls)
 unfolding openWords
@@ -127,3 +142,14 @@ demand3-on-tables kind n l o calls v =
       same-boards kind n size (opened n) (opened-sound n) (opened-held n) calls v,
       same-run kind n size (opened n) (opened-sound n) (opened-held n) calls v,
     ) (demand3 kind n calls)
+
+-- Its two instances: document 01's board, and the auction board of document 02, (b). A begin of the run is then the kind's own begin,
+-- and deliver and crash are the common ones (model's KindClaims.antt).
+
+pub demand3-on-concur : (n : ℕ) (l : List ℕ) → openNumber concur n l ≡ 0 → (calls : List Call) → Every CallHeld calls
+    → Demand3 concur n calls (tableBoards concur (openWords concur n l) calls) (tableRun concur (openWords concur n l) calls)
+demand3-on-concur = demand3-on-tables concur
+
+pub demand3-on-auction : (n : ℕ) (l : List ℕ) → openNumber auction n l ≡ 0 → (calls : List Call) → Every CallHeld calls
+    → Demand3 auction n calls (tableBoards auction (openWords auction n l) calls) (tableRun auction (openWords auction n l) calls)
+demand3-on-auction = demand3-on-tables auction

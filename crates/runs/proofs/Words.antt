@@ -10,7 +10,7 @@ use borrow.Author.Tests.{eqb-true, eqb-false}
 use Rattle.lists.specs.Functions.{put, inside, numbered}
 use Rattle.lists.proofs.Functions.{_and_, on, inside-low, put-off}
 use Rattle.model.specs.Records.{zeroValue}
-use Rattle.model.specs.Kinds.{isSize, concur}
+use Rattle.model.specs.Kinds.{Kind, concur, auction}
 use Rattle.model.specs.Board.{Board, opened}
 use Rattle.model.specs.Runs.{Call, Seen, after, run}
 use Rattle.lists.specs.Every.{Every}
@@ -18,44 +18,46 @@ use Rattle.model.specs.RecordWords.{valueOf}
 use Rattle.model.specs.Table.{tableWords}
 use Rattle.model.specs.TableCalls.{openNumber, openWords, boardIn, tableRun}
 use Rattle.runs.specs.Case.{Case, Claim, left, answerTo, found, Holds, tableLeft, foundInWords, HoldsInWords}
-use Rattle.runs.specs.Cases.{p1, p9, refusals, fromOpening}
+use Rattle.runs.specs.Cases.{p1, p9, p12, refusals, ofEitherKind, fromOpening}
+use Rattle.runs.specs.AuctionCases.{auctionOpenings, auctionLimits}
 use Rattle.runs.specs.OwnReadCases.{writesAlone}
 use Rattle.runs.specs.ReplyCases.{replyCases}
-use Rattle.runs.proofs.Cases.{every-case}
+use Rattle.runs.proofs.Cases.{every-case, every-auction-case}
 use Rattle.laws.proofs.Sound.{SoundBoard}
 use Rattle.runs.proofs.Sound.{opened-sound}
 use Rattle.runs.proofs.Held.{HeldBoard, ValueHeld, CallHeld, opened-held}
 use Rattle.runs.proofs.Tables.{board-in, same-after, after-sound, after-held, same-run, open-size}
 
-module _ (n : ℕ) (size : isSize n ≡ true) where
+module _ (kind : Kind) (n : ℕ) (size : inside (kind .most) n ≡ true) where
   -- what a list of calls leaves of the table is what it leaves of the board
   same-left : (b : Board) → SoundBoard n b → HeldBoard n b → (calls : List Call) → Every CallHeld calls
-      → boardIn (tableLeft (tableWords n b) calls) ≡ left n b calls
+      → boardIn (tableLeft kind (tableWords n b) calls) ≡ left kind n b calls
   unfolding tableLeft left
   same-left b s h [] v = board-in n b h
   same-left b s h (call ∷ calls) v =
-      ap (λ l. boardIn (tableLeft l calls)) (same-after concur n size b s h call)
-      ∙ same-left (after concur n b call) (after-sound concur n size b s call) (after-held concur n size b s h call (v .0)) calls (v .1)
+      ap (λ l. boardIn (tableLeft kind l calls)) (same-after kind n size b s h call)
+      ∙ same-left (after kind n b call) (after-sound kind n size b s call) (after-held kind n size b s h call (v .0)) calls (v .1)
 
 -- what is asked of the three things that were found to be equal
-same-answers : (n : ℕ) (calls : List Call) (claims : List Claim) (a b c d : Board) (s t : List Seen) → a ≡ b → c ≡ d → s ≡ t
-    → Every (λ q. answerTo n calls b d t (q .question) ≡ q .lines) claims
-    → Every (λ q. answerTo n calls a c s (q .question) ≡ q .lines) claims
-same-answers n calls claims a b c d s t p q r h = rw (p, q, r) h
+same-answers : (kind : Kind) (n : ℕ) (calls : List Call) (claims : List Claim) (a b c d : Board) (s t : List Seen)
+    → a ≡ b → c ≡ d → s ≡ t
+    → Every (λ q. answerTo kind n calls b d t (q .question) ≡ q .lines) claims
+    → Every (λ q. answerTo kind n calls a c s (q .question) ≡ q .lines) claims
+same-answers kind n calls claims a b c d s t p q r h = rw (p, q, r) h
 
-pub case-in-words : (c : Case) → c .start ≡ opened (c .n) → Every CallHeld (c .calls) → (l : List ℕ) → openNumber concur (c .n) l ≡ 0
-    → Holds c → HoldsInWords c (openWords concur (c .n) l)
+pub case-in-words : (kind : Kind) (c : Case) → c .start ≡ opened (c .n) → Every CallHeld (c .calls) → (l : List ℕ)
+    → openNumber kind (c .n) l ≡ 0 → Holds kind c → HoldsInWords kind c (openWords kind (c .n) l)
 unfolding found foundInWords openWords
-case-in-words c e v l o h =
+case-in-words kind c e v l o h =
     let n = c .n in
-    let size = open-size concur n l o in
-    rw o (same-answers n (c .calls) (c .claims)
+    let size = open-size kind n l o in
+    rw o (same-answers kind n (c .calls) (c .claims)
     (boardIn (tableWords n (opened n))) (c .start)
-    (boardIn (tableLeft (tableWords n (opened n)) (c .calls))) (left n (c .start) (c .calls))
-    (tableRun concur (tableWords n (opened n)) (c .calls)) (run concur n (c .start) (c .calls))
+    (boardIn (tableLeft kind (tableWords n (opened n)) (c .calls))) (left kind n (c .start) (c .calls))
+    (tableRun kind (tableWords n (opened n)) (c .calls)) (run kind n (c .start) (c .calls))
     (board-in n (opened n) (opened-held n) ∙ sym e)
-    (same-left n size (opened n) (opened-sound n) (opened-held n) (c .calls) v ∙ ap (λ b. left n b (c .calls)) (sym e))
-    (same-run concur n size (opened n) (opened-sound n) (opened-held n) (c .calls) v ∙ ap (λ b. run concur n b (c .calls)) (sym e))
+    (same-left kind n size (opened n) (opened-sound n) (opened-held n) (c .calls) v ∙ ap (λ b. left kind n b (c .calls)) (sym e))
+    (same-run kind n size (opened n) (opened-sound n) (opened-held n) (c .calls) v ∙ ap (λ b. run kind n b (c .calls)) (sym e))
     h)
 
 -- The values of scripts have 8 words.
@@ -121,17 +123,28 @@ module _ {A : Type 0} (P : A → Type 0) where
   before [] ys h = tt
   before (x ∷ xs) ys h = (h .0, before xs ys (h .1))
 
-abbrev InWords : Case → Type 0
-InWords c = (l : List ℕ) → openNumber concur (c .n) l ≡ 0 → HoldsInWords c (openWords concur (c .n) l)
+abbrev InWords : Kind → Case → Type 0
+InWords kind c = (l : List ℕ) → openNumber kind (c .n) l ≡ 0 → HoldsInWords kind c (openWords kind (c .n) l)
 
-each-in-words : (cs : List Case) → Every Opened cs → Every Holds cs → Every InWords cs
-each-in-words [] o h = tt
-each-in-words (c ∷ cs) o h = ((λ l n. case-in-words c (o .0 .0) (o .0 .1) l n (h .0)), each-in-words cs (o .1) (h .1))
+each-in-words : (kind : Kind) (cs : List Case) → Every Opened cs → Every (Holds kind) cs → Every (InWords kind) cs
+each-in-words kind [] o h = tt
+each-in-words kind (c ∷ cs) o h =
+    ((λ l n. case-in-words kind c (o .0 .0) (o .0 .1) l n (h .0)), each-in-words kind cs (o .1) (h .1))
 
 -- The cases P2 to P8, P10 and P12, of crashes and own reads, and those against false programs, on whatever table of words opening took.
-pub every-case-in-words : Every InWords fromOpening
+pub every-case-in-words : Every (InWords concur) fromOpening
 every-case-in-words =
-    each-in-words fromOpening all-opened (before Holds fromOpening rest (behind Holds p1 (fromOpening ++ rest) every-case))
+    each-in-words concur fromOpening all-opened
+    (before (Holds concur) fromOpening rest (behind (Holds concur) p1 (fromOpening ++ rest) every-case))
   where
     rest : List Case
     rest = (p9 ∷ refusals ∷ writesAlone ∷ []) ++ replyCases
+
+-- Those of either kind, on whatever table the auction's opening took.
+pub every-auction-case-in-words : Every (InWords auction) ofEitherKind
+every-auction-case-in-words =
+    each-in-words auction ofEitherKind (before Opened ofEitherKind p12 all-opened)
+    (behind (Holds auction) alone ofEitherKind (behind (Holds auction) auctionOpenings (alone ++ ofEitherKind) every-auction-case))
+  where
+    alone : List Case
+    alone = auctionLimits ++ (refusals ∷ [])

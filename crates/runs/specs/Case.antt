@@ -1,5 +1,5 @@
--- The form of a worked case: a board, a list of calls, and what is found. Whatever a case asks is answered with lines of numbers, so
--- that one comparison serves every question.
+-- The form of a worked case: a board, a list of calls, and what is found, on a board of some kind. Whatever a case asks is answered with
+-- lines of numbers, so that one comparison serves every question.
 use Prim.Native.Nat.{ℕ, zero, suc}
 use mathlib.Core.Path.{_≡_}
 use mathlib.Core.Bool.{Bool, true, false, cond, _&&_}
@@ -11,7 +11,7 @@ use Rattle.lists.specs.Functions.{put}
 use Rattle.lists.specs.Parts.{listed}
 use Rattle.model.specs.Rows.{Matrix}
 use Rattle.model.specs.Records.{Value, Rec, read, write, zeroValue}
-use Rattle.model.specs.Kinds.{concur}
+use Rattle.model.specs.Kinds.{Kind}
 use Rattle.model.specs.Member.{Member, check21, check22, check23, check24, check25, check26, check27, haltNumber, replied}
 use Rattle.model.specs.Pairs.{haltPairs}
 use Rattle.model.specs.Board.{Board}
@@ -106,9 +106,9 @@ pub record Case : Type 0 where
   pub claims : List Claim
 
 -- the board that a list of calls leaves
-unfoldable pub left : ℕ → Board → List Call → Board
-left n b [] = b
-left n b (call ∷ calls) = left n (after concur n b call) calls
+unfoldable pub left : Kind → ℕ → Board → List Call → Board
+left kind n b [] = b
+left kind n b (call ∷ calls) = left kind n (after kind n b call) calls
 
 unfoldable pub lastWord : Option Value → List ℕ
 lastWord none = []
@@ -170,29 +170,29 @@ unfoldable pub changed : ℕ → List ℕ → ℕ
 changed old [] = 0
 changed old (w ∷ l) = cond (eqb w old) (changed old l) (suc (changed old l))
 
-unfoldable pub opensOf : ℕ → List ℕ → List ℕ
-opensOf n l = openNumber concur n l ∷ changed 7 (openWords concur n l) ∷ []
+unfoldable pub opensOf : Kind → ℕ → List ℕ → List ℕ
+opensOf kind n l = openNumber kind n l ∷ changed 7 (openWords kind n l) ∷ []
 
 -- the answer to a question, by the board at the start, the board that the calls left, and what was seen
-unfoldable pub answerTo : ℕ → List Call → Board → Board → List Seen → Question → List (List ℕ)
-answerTo n calls b after seen output = printed calls seen
-answerTo n calls b after seen (newest r) = rowsOf n n (after .host r .newest .matrix)
-answerTo n calls b after seen (records r) = recordLine (after .host r .newest) ∷ recordLine (after .stored r) ∷ []
-answerTo n calls b after seen (messages i) = recordLines n (after .members i .first) ++ recordLines n (after .members i .second)
-answerTo n calls b after seen phases = listed n (λ i. after .members i .phase) ∷ []
-answerTo n calls b after seen halts = listed n (λ i. after .members i .halt) ∷ []
-answerTo n calls b after seen (failing i seals) = failingOf n i (b .members i) seals ∷ []
-answerTo n calls b after seen (taking i seals) = takingOf n i (b .members i) seals ∷ []
-answerTo n calls b after seen (looking i seals) = lookingOf n i (b .members i) seals ∷ []
-answerTo n calls b after seen decided = map decidedLine (watched calls seen .decided)
-answerTo n calls b after seen (running i) = begunLine (watched calls seen .running i) ∷ []
-answerTo n calls b after seen submits = map submitLine (watched calls seen .submits)
-answerTo n calls b after seen (sizes r) =
+unfoldable pub answerTo : Kind → ℕ → List Call → Board → Board → List Seen → Question → List (List ℕ)
+answerTo kind n calls b after seen output = printed calls seen
+answerTo kind n calls b after seen (newest r) = rowsOf n n (after .host r .newest .matrix)
+answerTo kind n calls b after seen (records r) = recordLine (after .host r .newest) ∷ recordLine (after .stored r) ∷ []
+answerTo kind n calls b after seen (messages i) = recordLines n (after .members i .first) ++ recordLines n (after .members i .second)
+answerTo kind n calls b after seen phases = listed n (λ i. after .members i .phase) ∷ []
+answerTo kind n calls b after seen halts = listed n (λ i. after .members i .halt) ∷ []
+answerTo kind n calls b after seen (failing i seals) = failingOf n i (b .members i) seals ∷ []
+answerTo kind n calls b after seen (taking i seals) = takingOf n i (b .members i) seals ∷ []
+answerTo kind n calls b after seen (looking i seals) = lookingOf n i (b .members i) seals ∷ []
+answerTo kind n calls b after seen decided = map decidedLine (watched calls seen .decided)
+answerTo kind n calls b after seen (running i) = begunLine (watched calls seen .running i) ∷ []
+answerTo kind n calls b after seen submits = map submitLine (watched calls seen .submits)
+answerTo kind n calls b after seen (sizes r) =
     (length (encode n (commit (after .host r .newest))) ∷ length (encode n (reply (after .host r .newest) (after .stored r))) ∷ []) ∷ []
-answerTo n calls b after seen (opens words) = opensOf n (replicate words 7) ∷ []
+answerTo kind n calls b after seen (opens words) = opensOf kind n (replicate words 7) ∷ []
 
-unfoldable pub found : Case → Question → List (List ℕ)
-found c = answerTo (c .n) (c .calls) (c .start) (left (c .n) (c .start) (c .calls)) (run concur (c .n) (c .start) (c .calls))
+unfoldable pub found : Kind → Case → Question → List (List ℕ)
+found kind c = answerTo kind (c .n) (c .calls) (c .start) (left kind (c .n) (c .start) (c .calls)) (run kind (c .n) (c .start) (c .calls))
 
 module _ {A : Type 0} where
   -- does the test pass at every element
@@ -209,20 +209,21 @@ module _ {A : Type 0} where
 
 -- A case holds where each of its questions is answered by the lines that it gives: as a statement, and as a test that is computed.
 
-abbrev pub Holds : Case → Type 0
-Holds c = Every (λ q. found c (q .question) ≡ q .lines) (c .claims)
+abbrev pub Holds : Kind → Case → Type 0
+Holds kind c = Every (λ q. found kind c (q .question) ≡ q .lines) (c .claims)
 
-unfoldable pub holds : Case → Bool
-holds c = every (λ q. alike (alike eqb) (found c (q .question)) (q .lines)) (c .claims)
+unfoldable pub holds : Kind → Case → Bool
+holds kind c = every (λ q. alike (alike eqb) (found kind c (q .question)) (q .lines)) (c .claims)
 
 -- The same on a table of words: the calls by the definitions that the board's contracts cite, and what is asked read off the words.
 
-unfoldable pub tableLeft : List ℕ → List Call → List ℕ
-tableLeft l [] = l
-tableLeft l (call ∷ calls) = tableLeft (tableAfter concur l call) calls
+unfoldable pub tableLeft : Kind → List ℕ → List Call → List ℕ
+tableLeft kind l [] = l
+tableLeft kind l (call ∷ calls) = tableLeft kind (tableAfter kind l call) calls
 
-unfoldable pub foundInWords : Case → List ℕ → Question → List (List ℕ)
-foundInWords c l = answerTo (c .n) (c .calls) (boardIn l) (boardIn (tableLeft l (c .calls))) (tableRun concur l (c .calls))
+unfoldable pub foundInWords : Kind → Case → List ℕ → Question → List (List ℕ)
+foundInWords kind c l =
+    answerTo kind (c .n) (c .calls) (boardIn l) (boardIn (tableLeft kind l (c .calls))) (tableRun kind l (c .calls))
 
-abbrev pub HoldsInWords : Case → List ℕ → Type 0
-HoldsInWords c l = Every (λ q. foundInWords c l (q .question) ≡ q .lines) (c .claims)
+abbrev pub HoldsInWords : Kind → Case → List ℕ → Type 0
+HoldsInWords kind c l = Every (λ q. foundInWords kind c l (q .question) ≡ q .lines) (c .claims)

@@ -1,5 +1,5 @@
 -- The worked cases of document 01, "Boards to prove" and "Plausible and false", as rows of one table. Own reads are in OwnReadCases.antt,
--- replies in ReplyCases.antt.
+-- replies in ReplyCases.antt, auction boards in AuctionCases.antt.
 use Prim.Native.Nat.{ℕ}
 use mathlib.Core.List.{List, [], _∷_, _++_}
 use Rattle.lists.specs.Functions.{put}
@@ -293,8 +293,12 @@ crashes = crashedAccepted ∷ crashedAborted ∷ []
 abbrev pub falses : List Case
 falses = newerWins ∷ crashedSubmit ∷ crashedOvertakes ∷ readsNotStored ∷ notInTheReadersSlot ∷ []
 
+-- those of at most four members, which hold on a board of either kind
+abbrev pub ofEitherKind : List Case
+ofEitherKind = plain ++ crashes ++ falses ++ ownReads
+
 abbrev pub fromOpening : List Case
-fromOpening = plain ++ crashes ++ falses ++ ownReads ++ p12
+fromOpening = ofEitherKind ++ p12
 
 -- The table.
 abbrev pub cases : List Case

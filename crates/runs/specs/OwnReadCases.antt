@@ -1,6 +1,7 @@
 -- Own reads (document 02, (a)): what they return, what they leave the host, whom they abort; and what the rule before would have done.
 use Prim.Native.Nat.{ℕ}
 use mathlib.Core.List.{List, [], _∷_, _++_}
+use Rattle.model.specs.Kinds.{concur}
 use Rattle.model.specs.Records.{read, write}
 use Rattle.model.specs.Board.{opened}
 use Rattle.model.specs.Runs.{Call, deliver, crash}
@@ -113,7 +114,7 @@ ownReads = ownUnwritten ∷ readBack ∷ ownOvertaken ∷ ownOvertakes ∷ ownCr
 -- the stored one still. "Otherwise check 25 would halt the next caller": whoever comes next, the other or the owner.
 abbrev pub writesAlone : Case
 writesAlone =
-    let read = left 2 (opened 2) (wholeRead 2 2) in
+    let read = left concur 2 (opened 2) (wholeRead 2 2) in
     record {
       n = 2;
       start = record { members = read .members; host = read .host; stored = opened 2 .stored };

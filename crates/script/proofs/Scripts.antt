@@ -5,7 +5,7 @@ use Rattle.lists.proofs.Functions.{_and_}
 use Rattle.model.specs.Rows.{zeroRow, zeroMatrix, below, matrixBelow, comparable, larger, withCount}
 use Rattle.model.specs.Records.{zeroValue, opening, zeroRecord, recordWithin}
 use Rattle.model.specs.Kinds.{isOperation, barred, becomesStored}
-use Rattle.model.specs.Numbers.{fieldsNumber, beginAnswer, deliverAnswer, crashAnswer}
+use Rattle.model.specs.Numbers.{fieldsNumber, kindNumber, beginAnswer, deliverAnswer, crashAnswer}
 use Rattle.model.specs.Member.{idle, begun, answered, check21, check22, check23, check24, check25, check26, check27, haltNumber, joined}
 use Rattle.model.specs.Member.{ownRecord, passed, failed, replied, judged, completed, tookOver, dropped, outcome, returnedBy, crashedOf}
 use Rattle.model.specs.Host.{submitted, wins, entryAfter, storedAfter}
@@ -20,7 +20,8 @@ use Rattle.model.specs.Table.{soundEntry, soundHost, soundBoard, tableNumber, b
 use Rattle.model.specs.Halves.{fitRecord, memberNumber, memberBeginNumber, memberBeginWords, notWaiting, replyNumber, replyWords}
 use Rattle.model.specs.Halves.{outcomeNumber, outcomeWords, outcomeReturns, memberCrashNumber, memberCrashWords, hostNumber, submitWords}
 use Rattle.model.specs.Halves.{submitNewest, submitStored, commitNumber, commitOutcome, commitWords}
-use Rattle.model.specs.TableCalls.{openNumber, openWords, boardIn, tableAnswer, tableAfter, tableReturns, phaseWords, tableSeen, tableRun}
+use Rattle.model.specs.TableCalls.{openNumber, openWords, boardIn, beginNumber, callNumber, tableAnswer, tableAfter, tableReturns}
+use Rattle.model.specs.TableCalls.{phaseWords, tableSeen, tableRun}
 use Rattle.lists.specs.Functions.{put, pasted, from, inside, within, numbered, each}
 use Rattle.lists.specs.Parts.{tabulate}
 use Rattle.lists.specs.Pieces.{place, pieces, laid}
@@ -34,7 +35,7 @@ use Rattle.script.specs.Examples.{Holds, examples}
 pub every-example : Every Holds examples
 unfolding examples zeroRow zeroMatrix below matrixBelow comparable larger withCount zeroValue opening zeroRecord recordWithin isOperation
     barred
-    becomesStored fieldsNumber beginAnswer deliverAnswer crashAnswer idle begun answered check21 check22 check23 check24 check25 check26
+    becomesStored fieldsNumber kindNumber beginAnswer deliverAnswer crashAnswer idle begun answered check21 check22 check23 check24 check25 check26
     check27 haltNumber joined ownRecord passed failed replied judged completed tookOver dropped outcome returnedBy crashedOf submitted
     wins entryAfter storedAfter noEntry openingEntry opened withMember boardBegun submitTaken replyTaken sentRecord commitTaken
     outcomeTaken boardDelivered boardReturned boardCrashed answerOf done doneReturns after seenAt run recordSize rowOf matrixOf
@@ -43,8 +44,8 @@ unfolding examples zeroRow zeroMatrix below matrixBelow comparable larger withCo
     entryWords hostWords tableWords soundRecord soundOperation soundMember soundEntry soundHost soundBoard tableNumber
     blockNumber entriesNumber fitRecord memberNumber memberBeginNumber memberBeginWords notWaiting replyNumber replyWords
     outcomeNumber outcomeWords outcomeReturns memberCrashNumber memberCrashWords hostNumber submitWords submitNewest submitStored
-    commitNumber commitOutcome commitWords openNumber openWords boardIn tableAnswer tableAfter tableReturns phaseWords tableSeen
-    tableRun put pasted from inside within numbered each tabulate place pieces laid isDigit startsWith before beyond digitsWithin
+    commitNumber commitOutcome commitWords openNumber openWords boardIn beginNumber callNumber tableAnswer tableAfter tableReturns
+    phaseWords tableSeen tableRun put pasted from inside within numbered each tabulate place pieces laid isDigit startsWith before beyond digitsWithin
     digits digitsRead limited leadingZero numberOf oneNumber twoNumbers lineOf textOf firstOf callOf caller stepped stepLine stepsFrom
     withByte linesOf boardRun linesRun scriptRun orDash printedLine lastWord printedStep printedSteps boardLine refusedLine printedRun
     scriptOutput

@@ -14,7 +14,7 @@ use Rattle.lists.proofs.Parts.{words-set, words-replaced, words-zeros}
 use Rattle.model.specs.Member.{idle}
 use Rattle.model.specs.Board.{opened}
 use Rattle.model.specs.Table.{blocksAt, hostAt, tableSize, membersOf, hostOf, storedRecordsOf, boardOf}
-use Rattle.model.specs.Kinds.{concur}
+use Rattle.model.specs.Kinds.{Kind}
 use Rattle.model.specs.TableCalls.{openNumber, openWords}
 use Rattle.laws.proofs.Blocks.{member-zero}
 use Rattle.laws.proofs.Tables.{members-same, host-room}
@@ -76,17 +76,17 @@ module _ (n : ℕ) (l : List ℕ) (low : 1 ≤ n) (high : n ≤ 12) (long : leng
       board = host-changed t p same ∙ (λ s. record { members = idle-members n (words sized) zeros s; host = e s; stored = f s });
     }
 
--- What opening answers and leaves.
-module _ (n : ℕ) (l : List ℕ) where
-  pub size-refused : inside 12 n ≡ false → (1 ≡ openNumber concur n l) × (l ≡ openWords concur n l)
+-- What opening answers and leaves, of a board of a kind.
+module _ (kind : Kind) (n : ℕ) (l : List ℕ) where
+  pub size-refused : inside (kind .most) n ≡ false → (1 ≡ openNumber kind n l) × (l ≡ openWords kind n l)
   unfolding openWords openNumber
   size-refused p = (rw p, rw p)
 
-  pub length-refused : inside 12 n ≡ true → (length l ≡ tableSize n → ⊥) → (2 ≡ openNumber concur n l) × (l ≡ openWords concur n l)
+  pub length-refused : inside (kind .most) n ≡ true → (length l ≡ tableSize n → ⊥) → (2 ≡ openNumber kind n l) × (l ≡ openWords kind n l)
   unfolding openWords openNumber
   length-refused p q = (rw (p, ne-eqb (length l) (tableSize n) q), rw (p, ne-eqb (length l) (tableSize n) q))
 
-  pub opens : inside 12 n ≡ true → length l ≡ tableSize n → {exit : List ℕ} → Left n (opened n) exit
-      → (0 ≡ openNumber concur n l) × (exit ≡ openWords concur n l)
+  pub opens : inside (kind .most) n ≡ true → length l ≡ tableSize n → {exit : List ℕ} → Left n (opened n) exit
+      → (0 ≡ openNumber kind n l) × (exit ≡ openWords kind n l)
   unfolding openWords openNumber
   opens p q h = (rw (p, eq-eqb (length l) (tableSize n) q), rw (p, eq-eqb (length l) (tableSize n) q) (left-words h))

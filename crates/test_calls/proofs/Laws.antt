@@ -9,11 +9,14 @@ use borrow.Author.Tests.{eq-eqb, ne-eqb, eqb-true}
 use lib.Dec.{eqb}
 use lib.ListN.{length, take, drop, set, length-append, length-drop, drop-of-length-le}
 use lib.Seq.{take-at, drop-at, length-take-le, sets-eq}
-use Rattle.lists.specs.Parts.{replaced}
-use Rattle.lists.proofs.Functions.{on, inside-high}
-use Rattle.model.specs.Records.{Rec, zeroRecord, recordWithin}
-use Rattle.model.specs.RecordWords.{recordSize, recordWords}
-use Rattle.model.specs.Halves.{hostNumber, submitNewest, submitStored}
+use Rattle.lists.specs.Functions.{from}
+use Rattle.lists.specs.Parts.{words, replaced}
+use Rattle.lists.proofs.Functions.{on, inside-high, from-zero}
+use Rattle.model.specs.Kinds.{Kind}
+use Rattle.model.specs.Records.{Value, Rec, zeroRecord, recordWithin}
+use Rattle.model.specs.RecordWords.{recordSize, valueOf, recordWords}
+use Rattle.model.specs.Table.{valueSize}
+use Rattle.model.specs.Halves.{memberBeginNumber, memberBeginWords, hostNumber, submitNewest, submitStored}
 use Rattle.model.specs.Messages.{Message as Wire, kindOf, writeNumber, writable, writtenLength}
 use Rattle.laws.proofs.Records.{length-recordWords}
 use Rattle.laws.proofs.Messages.{length-encode, lengthOf-most, writable-of}
@@ -32,6 +35,23 @@ module _ {A : Type 0} (l : List ℕ) (due : ℕ) where
   pub calls : length l ≡ due → (x y : A) {z : A} → z ≡ y → z ≡ beside l due x y
   unfolding beside
   calls e x y p = rw (eq-eqb (length l) due e) p
+
+-- The member half's begin on a board of a kind, with the value that was read from the slice beside it: the number, and the block.
+module _ (kind : Kind) (n i r t : ℕ) (block given : List ℕ) where
+  abbrev Begun : ℕ → List ℕ → Type 0
+  Begun number exit =
+      (number ≡ beside given valueSize 2 (memberBeginNumber kind n i block r t))
+      × (exit ≡ beside given valueSize block (memberBeginWords kind n i block r t (valueOf (words given))))
+
+  pub no-value : (length given ≡ valueSize → ⊥) → Begun 2 block
+  no-value ne = (refuses given valueSize ne 2 _, refuses given valueSize ne block _)
+
+  pub begins : length given ≡ valueSize → {value : Value} → value ≡ valueOf (from (words given) 0) → {number : ℕ} {exit : List ℕ}
+      → number ≡ memberBeginNumber kind n i block r t → exit ≡ memberBeginWords kind n i block r t value → Begun number exit
+  begins long e p q = (
+    calls given valueSize long 2 _ p,
+    calls given valueSize long block _ (q ∙ ap (memberBeginWords kind n i block r t) (e ∙ ap valueOf (from-zero (words given)))),
+  )
 
 -- Two of them, beside a call that leaves three things.
 module _ {A B C : Type 0} (l : List ℕ) (due : ℕ) (m : List ℕ) (dueToo : ℕ) (x y : A) (z t : B) (u v : C) where

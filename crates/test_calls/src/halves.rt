@@ -1,8 +1,8 @@
-// The member half's four calls, on a block, and the host half's two, on the host entries.
+// The member half's four calls and its auction begin, on a block, and the host half's two, on the host entries.
 ghost use mathlib.Core.Path.{_≡_};
 ghost use mathlib.Core.List.{[], _∷_};
 ghost use Rattle.lists.specs.Parts.{words};
-ghost use Rattle.model.specs.Kinds.{concur};
+ghost use Rattle.model.specs.Kinds.{concur, auction};
 ghost use Rattle.model.specs.RecordWords.{valueOf};
 ghost use Rattle.model.specs.Table.{valueSize};
 ghost use Rattle.model.specs.Halves.{memberBeginNumber, memberBeginWords, memberCrashNumber, memberCrashWords};
@@ -18,6 +18,7 @@ use crate::words::store_both;
 use board::steps::hand_out;
 use host::take_commit;
 use host::take_submit;
+use member::auction;
 use member::begin;
 use member::crash;
 use member::take_outcome;
@@ -45,6 +46,29 @@ pub extern "C" fn concur_call_member_begin(
     }
     let given = load_value(value, 0);
     begin(block, n, member, slot, operation, given)
+}
+
+#[no_mangle]
+pub extern "C" fn concur_call_member_auction_begin(
+    block: &mut [u32],
+    n: u32,
+    member: u32,
+    slot: u32,
+    operation: u32,
+    value: &[u32],
+) -> u32
+    ensures { λ r. ⌜ r
+        ≡ beside (now (value .entry)) valueSize 2
+        (memberBeginNumber auction n member (now (block .entry)) slot operation) ⌝ }
+    ensures { λ _. ⌜ now (block .exit)
+        ≡ beside (now (value .entry)) valueSize (now (block .entry))
+        (memberBeginWords auction n member (now (block .entry)) slot operation (valueOf (words (now (value .entry))))) ⌝ }
+{
+    if value.len() != 8 {
+        return 2;
+    }
+    let given = load_value(value, 0);
+    auction::begin(block, n, member, slot, operation, given)
 }
 
 #[no_mangle]

@@ -1,35 +1,12 @@
--- `begin` meets its contract: the table's own number refuses, or the table is sound and `begin_on` answers.
+-- `begin` meets its contract: it is `begin_by` with the numbers of document 01's board.
 use borrow.Author.Needs.{needs}
-use mathlib.Core.Path.{_∙_, sym}
-use Rattle.lists.specs.Parts.{words}
-use Rattle.board.specs.Needs.{Sound}
-use Rattle.board.proofs.Answers.{call-done, good, own-call, some-words}
+use mathlib.Core.Path.{refl}
+use Rattle.model.specs.Kinds.{concur}
 use Rattle.board.proofs.begin.Statement.{statement}
 use Rattle.board.proofs.begin.Tie as tie
 
-abbrev start : tie.After-table-number → tie.Start
-start c = c .before .before .before
-
-sound : (c : tie.Else1) → let l = start (c .before) .args .table .now in Sound (words l 0) l
-sound c = good _ (sym (c .before .table-number .ensures) ∙ c .if1 .left)
-
 returns : tie.Need-returns
-returns c = own-call _ _ _ (c .before .table-number .ensures) (c .if1 .taken)
-
-slice-read-n : tie.Need-slice-read-n
-slice-read-n c = some-words (sound (c .before))
-
-begin-on-requires : tie.Need-begin-on-requires
-begin-on-requires c κs = sound (c .before .before) .table
-
-returns-2 : tie.Need-returns-2
-returns-2 c =
-    let does = c .before .before in
-    let left = does .before .before .before in
-    call-done _ _ _ (left .before .table-number .ensures) (left .if1 .left) (does .begin-on .ensures)
+returns c = c .before .before .begin-by .ensures concur refl refl
 
 pub begin-spec : {M : Type 1} → statement M
-begin-spec =
-    tie.close
-    (tie.spec
-    (λ c κs. search needs) (λ c. search needs) returns slice-read-n begin-on-requires (λ c. search needs) returns-2)
+begin-spec = tie.close (tie.spec (λ c κs. search needs) (λ c. search needs) returns)

@@ -2,8 +2,9 @@
 use borrow.Author.Needs.{needs}
 use mathlib.Core.Path.{_∙_, sym}
 use Rattle.lists.specs.Parts.{words}
+use Rattle.model.specs.Kinds.{concur}
 use Rattle.board.specs.Needs.{Sound}
-use Rattle.board.proofs.Answers.{call-done, good, own-call, some-words}
+use Rattle.board.proofs.Answers.{call-done, good, of-crash, own-call, some-words}
 use Rattle.board.proofs.crash.Statement.{statement}
 use Rattle.board.proofs.crash.Tie as tie
 
@@ -14,7 +15,7 @@ sound : (c : tie.Else1) → let l = start (c .before) .args .table .now in Sound
 sound c = good _ (sym (c .before .table-number .ensures) ∙ c .if1 .left)
 
 returns : tie.Need-returns
-returns c = own-call _ _ _ (c .before .table-number .ensures) (c .if1 .taken)
+returns c = own-call concur _ _ _ (of-crash concur _ _ (c .before .table-number .ensures)) (c .if1 .taken)
 
 slice-read-n : tie.Need-slice-read-n
 slice-read-n c = some-words (sound (c .before))
@@ -26,7 +27,7 @@ returns-2 : tie.Need-returns-2
 returns-2 c =
     let does = c .before .before in
     let left = does .before .before .before in
-    call-done _ _ _ (left .before .table-number .ensures) (left .if1 .left) (does .crash-on .ensures)
+    call-done concur _ _ _ (of-crash concur _ _ (left .before .table-number .ensures)) (left .if1 .left) (does .crash-on .ensures)
 
 pub crash-spec : {M : Type 1} → statement M
 crash-spec =

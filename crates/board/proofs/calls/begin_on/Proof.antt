@@ -1,10 +1,10 @@
 -- `begin_on` meets its contract: there is no such member, or the block that is lent refuses, or the operation is begun on it.
 use borrow.Author.Needs.{needs}
 use native.Mathlib.Omega.{arith}
-use mathlib.Core.Path.{_∙_, _≡_, ap, sym}
+use mathlib.Core.Path.{_∙_, _≡_, refl, ap, sym}
 use Rattle.lists.specs.Parts.{words}
 use Rattle.model.specs.Board.{boardBegun}
-use Rattle.model.specs.Kinds.{concur}
+use Rattle.model.specs.Kinds.{Kind}
 use Rattle.model.specs.Member.{begun}
 use Rattle.model.specs.Numbers.{beginAnswer}
 use Rattle.model.specs.RecordWords.{valueOf}
@@ -39,21 +39,27 @@ lent c = block-lent (start-sized c .pre) (numbered (c .before .before)) (c .befo
 abbrev sized : tie.After-begin-answer-on → tie.After-block-size
 sized c = c .before .before .before
 
-answered : (c : tie.After-begin-answer-on) → let s = start-sized (sized c) in
-    c .begin-answer-on .result ≡ answerOf concur (s .args .n) (boardOf (s .args .n) (words (s .args .table .now))) (call s)
+answered : (c : tie.After-begin-answer-on) (kind : Kind) → let s = start-sized (sized c) in
+    s .args .limit ≡ kind .limit
+    → c .begin-answer-on .result ≡ answerOf kind (s .args .n) (boardOf (s .args .n) (words (s .args .table .now))) (call s)
 unfolding answerOf
-answered c =
+answered c kind limit =
     let a = start-sized (sized c) .args in
-    c .begin-answer-on .ensures
-    ∙ ap (λ m. beginAnswer concur (a .n) (m .phase) (m .crashed) (m .own (a .slot)) (a .member) (a .slot) (a .operation))
+    c .begin-answer-on .ensures kind limit
+    ∙ ap (λ m. beginAnswer kind (a .n) (m .phase) (m .crashed) (m .own (a .slot)) (a .member) (a .slot) (a .operation))
     (member-lent (lent (sized c)))
+
+-- a kind that has the limit
+abbrev limited : tie.After-begin-answer-on → Kind
+limited c = record { limit = start-sized (sized c) .args .limit; most = 0; sized = omega arith }
 
 -- The needs.
 
 returns : tie.Need-returns
-returns c =
+returns c kind limit =
     let s = c .before .before .before in
-    refuses _ _ (call s) 4 (s .pre) (no-begin _ _ _ _ _ _ (refused (c .before .is-numbered .ensures) (c .if1 .taken))) (λ e. omega arith)
+    refuses kind _ _ (call s) 4 (s .pre) (no-begin _ _ _ kind _ _ _ (refused (c .before .is-numbered .ensures) (c .if1 .taken)))
+    (λ e. omega arith)
 
 block-at-requires : tie.Need-block-at-requires
 block-at-requires c κs = let w = numbered c in (start c .pre .most, (w .least, w .most))
@@ -62,21 +68,28 @@ begin-answer-on-requires : tie.Need-begin-answer-on-requires
 begin-answer-on-requires c κs = whole-block (lent (c .before .before))
 
 returns-2 : tie.Need-returns-2
-returns-2 c = let s = start-sized (sized (c .before)) in refuses _ _ (call s) _ (s .pre) (answered (c .before)) (c .if2 .taken)
+returns-2 c kind limit =
+    let s = start-sized (sized (c .before)) in
+    refuses kind _ _ (call s) _ (s .pre) (answered (c .before) kind limit) (c .if2 .taken)
 
 begin-requires : tie.Need-begin-requires
 begin-requires c κs =
     let asked = c .before .before in
-    let k = begin-taken concur _ _ _ _ _ _ _ (sym (asked .begin-answer-on .ensures) ∙ c .before .if2 .left) in
-    (whole-block (lent (sized asked)), (within _ _ (k .slot), count-room (k .room)))
+    let kind = limited asked in
+    let k = begin-taken kind _ _ _ _ _ _ _ (sym (asked .begin-answer-on .ensures kind refl) ∙ c .before .if2 .left) in
+    record {
+      block = whole-block (lent (sized asked));
+      slot = within _ _ (k .slot);
+      room = count-room (start-sized (sized asked) .fits .limit .fits) (k .room);
+    }
 
 returns-3 : tie.Need-returns-3
 unfolding done boardBegun
-returns-3 c =
+returns-3 c kind limit =
     let begins = c .before .before in
     let else2 = begins .before .before in
     let s = start-sized (sized (else2 .before)) in
-    takes _ _ (call s) _ (sym (else2 .if2 .left) ∙ answered (else2 .before))
+    takes kind _ _ (call s) _ (sym (else2 .if2 .left) ∙ answered (else2 .before) kind limit)
     (step-left (lent (sized (else2 .before))) (begins .begin .last .0) (begins .begin .kept .0)
     (λ m. begun m (s .args .slot) (s .args .operation) (valueOf (words (s .args .value)))) (begins .begin .ensures))
 

@@ -49,7 +49,7 @@ answered c =
 returns : tie.Need-returns
 returns c =
     let s = c .before .before .before in
-    refuses _ _ (call s) 4 (s .pre) (no-crash _ _ _ (refused (c .before .is-numbered .ensures) (c .if1 .taken))) (λ e. omega arith)
+    refuses concur _ _ (call s) 4 (s .pre) (no-crash _ _ _ (refused (c .before .is-numbered .ensures) (c .if1 .taken))) (λ e. omega arith)
 
 block-at-requires : tie.Need-block-at-requires
 block-at-requires c κs = let w = numbered c in (start c .pre .most, (w .least, w .most))
@@ -67,12 +67,12 @@ returns-2 c =
     let marks = c .before .before in
     let asked = marks .before .before .before in
     let none : asked .crash-answer-on .result ≡ 0 = omega arith in
-    rw none (takes _ _ (call (start-sized (sized asked))) _ (sym none ∙ answered asked)
+    rw none (takes concur _ _ (call (start-sized (sized asked))) _ (sym none ∙ answered asked)
     (step-left (lent (sized asked)) (marks .mark-crashed .last .0) (marks .mark-crashed .kept .0) crashedOf (marks .mark-crashed .ensures)))
 
 -- refused: it is not
 returns-3 : tie.Need-returns-3
-returns-3 c = let s = start-sized (sized (c .before)) in refuses _ _ (call s) _ (s .pre) (answered (c .before)) (λ e. omega arith)
+returns-3 c = let s = start-sized (sized (c .before)) in refuses concur _ _ (call s) _ (s .pre) (answered (c .before)) (λ e. omega arith)
 
 pub crash-on-spec : {M : Type 1} → statement M
 crash-on-spec =

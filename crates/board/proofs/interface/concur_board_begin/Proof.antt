@@ -1,49 +1,12 @@
--- `concur_board_begin` meets its contract: the table's own number, the value's length, or `begin_on` with the value that is read.
+-- `concur_board_begin` meets its contract: it is `begin_beside` with the numbers of document 01's board.
 use borrow.Author.Needs.{needs}
-use native.Mathlib.Omega.{arith}
-use mathlib.Core.Path.{_∙_, sym}
-use Rattle.lists.specs.Parts.{words}
-use Rattle.board.specs.Needs.{Sound}
-use Rattle.board.proofs.Answers.{good, some-words}
-use Rattle.board.proofs.Beside.{done-beside, from-start, long-beside, own-beside, same-value}
+use mathlib.Core.Path.{refl}
+use Rattle.model.specs.Kinds.{concur}
 use Rattle.board.proofs.interface.concur_board_begin.Statement.{statement}
 use Rattle.board.proofs.interface.concur_board_begin.Tie as tie
 
-abbrev start : tie.After-table-number → tie.Start
-start c = c .before .before .before .before
-
-sound : (c : tie.Else1) → let l = start (c .before) .args .table .now in Sound (words l 0) l
-sound c = good _ (sym (c .before .table-number .ensures) ∙ c .if1 .left)
-
-abbrev fit : tie.After-begin-on-arg → tie.Else2
-fit c = c .before .before
-
 returns : tie.Need-returns
-returns c = own-beside _ _ _ _ (c .before .table-number .ensures) (c .if1 .taken)
-
-returns-2 : tie.Need-returns-2
-returns-2 c = long-beside _ _ _ _ (c .before .before .table-number .ensures) (c .before .if1 .left) (c .if2 .taken)
-
-slice-read-n : tie.Need-slice-read-n
-slice-read-n c = some-words (sound (c .before .before))
-
-load-value-requires : tie.Need-load-value-requires
-load-value-requires c κs = omega (arith, fit c .if2 .left)
-
-begin-on-requires : tie.Need-begin-on-requires
-begin-on-requires c κs = sound (fit (c .before) .before) .table
-
-returns-3 : tie.Need-returns-3
-returns-3 c =
-    let does = c .before .before in
-    let left = fit (does .before .before) in
-    let value = does .before .load-value .ensures ∙ from-start (words (start (left .before .before) .args .value .now)) in
-    done-beside _ _ _ _ (left .before .before .table-number .ensures) (left .before .if1 .left) (left .if2 .left)
-    (same-value value (does .begin-on .ensures))
+returns c = c .before .before .begin-beside .ensures concur refl refl
 
 pub concur-board-begin-spec : {M : Type 1} → statement M
-concur-board-begin-spec =
-    tie.close
-    (tie.spec
-    (λ c κs. search needs) (λ c. search needs) returns (λ c. search needs) returns-2 slice-read-n load-value-requires
-    begin-on-requires (λ c. search needs) returns-3)
+concur-board-begin-spec = tie.close (tie.spec (λ c κs. search needs) (λ c. search needs) returns)

@@ -5,10 +5,12 @@ use native.Mathlib.Omega.{arith}
 use mathlib.Core.Path.{_∙_, sym}
 use lib.ListN.{length}
 use Rattle.lists.specs.Parts.{words}
+use Rattle.model.specs.Kinds.{concur}
 use Rattle.model.specs.Runs.{deliver}
 use Rattle.board.specs.Needs.{Sound}
-use Rattle.board.proofs.Answers.{call-returns, good, some-words}
-use Rattle.board.proofs.Beside.{Beside, done-beside, handed, long-beside, own-beside, returned-kept, returned-written}
+use Rattle.board.proofs.Answers.{call-returns, good, of-deliver, some-words}
+use Rattle.board.specs.Interface.{Beside}
+use Rattle.board.proofs.Beside.{done-beside, handed, long-beside, own-beside, returned-kept, returned-written}
 use Rattle.board.proofs.interface.concur_board_deliver.Statement.{statement}
 use Rattle.board.proofs.interface.concur_board_deliver.Tie as tie
 
@@ -22,20 +24,21 @@ abbrev fit : tie.After-deliver-on → tie.Else2
 fit c = c .before .before .before
 
 done : (c : tie.After-deliver-on) → let a = start (fit c .before .before) .args in
-    Beside (length (a .returned .now)) 9 (a .table .now) (deliver (a .member)) (c .deliver-on .result .number) (c .deliver-on .last .0)
+    Beside concur (length (a .returned .now)) 9 (a .table .now) (deliver (a .member)) (c .deliver-on .result .number) (c .deliver-on .last .0)
 done c =
     let left = fit c in
-    done-beside _ _ _ _ (left .before .before .table-number .ensures) (left .before .if1 .left) (left .if2 .left)
+    done-beside concur _ _ _ _ (of-deliver concur _ _ (left .before .before .table-number .ensures)) (left .before .if1 .left) (left .if2 .left)
     (c .deliver-on .ensures .0)
 
 returns : tie.Need-returns
 returns c =
-    let b = own-beside _ _ _ _ (c .before .table-number .ensures) (c .if1 .taken) in
+    let b = own-beside concur _ _ _ _ (of-deliver concur _ _ (c .before .table-number .ensures)) (c .if1 .taken) in
     (b .0, (b .1, returned-kept _ _ _ (b .0) (c .if1 .taken)))
 
 returns-2 : tie.Need-returns-2
 returns-2 c =
-    let b = long-beside _ _ _ _ (c .before .before .table-number .ensures) (c .before .if1 .left) (c .if2 .taken) in
+    let e = of-deliver concur _ _ (c .before .before .table-number .ensures) in
+    let b = long-beside concur _ _ _ _ e (c .before .if1 .left) (c .if2 .taken) in
     (b .0, (b .1, returned-kept _ _ _ (b .0) (λ e. omega arith)))
 
 slice-read-n : tie.Need-slice-read-n
@@ -61,8 +64,8 @@ returns-4 c =
     let left = fit does in
     let r = does .deliver-on .ensures .1 in
     let k = sym (taken .if3 .left) ∙ done does .0 in
-    let value = call-returns _ (does .deliver-on .last .0) _ (left .before .before .table-number .ensures) (left .before .if1 .left)
-    (r .0) in
+    let e = of-deliver concur _ _ (left .before .before .table-number .ensures) in
+    let value = call-returns concur _ (does .deliver-on .last .0) _ e (left .before .if1 .left) (r .0) in
     (k, (done does .1, returned-written _ _ _ k (out .hand-out .ensures ∙ handed (does .deliver-on .result) _ value (r .1))))
 
 pub concur-board-deliver-spec : {M : Type 1} → statement M

@@ -1,76 +1,26 @@
--- `member_number` meets its contract: ground by ground, and what each test that passed shows.
+-- `member_number` meets its contract: what is lent refuses, or there is no such member, or there is.
 use borrow.Author.Needs.{needs}
-use mathlib.Core.Bool.{true}
-use mathlib.Core.Path.{_∙_, _≡_, sym}
-use borrow.Author.Tests.{eq-eqb, ne-eqb}
-use Rattle.lists.specs.Functions.{inside}
-use Rattle.lists.specs.Parts.{words}
-use Rattle.lists.proofs.Functions.{inside-high, inside-low}
+use Rattle.lists.proofs.Refusals.{number-refuses, number-passes}
 use Rattle.model.specs.Halves.{memberNumber}
-use Rattle.model.specs.Table.{blockNumber, memberOf, soundMember}
 use Rattle.laws.proofs.Tests.{allowed, refused}
-use Rattle.member.specs.Needs.{Block}
 use Rattle.member.proofs.numbers.member_number.Statement.{statement}
 use Rattle.member.proofs.numbers.member_number.Tie as tie
 
-abbrev start : tie.Else1 → tie.Start
-start c = c .before .before .before
-
-size : (c : tie.Else1) → inside 12 (start c .args .n) ≡ true
-size c = allowed (c .before .is-numbered .ensures) (c .if1 .left)
-
-abbrev sized : tie.Else2 → tie.Else1
-sized c = c .before .before
-
-whole : (c : tie.Else2) → Block (start (sized c) .args .n) (start (sized c) .args .block .now)
-whole c =
-    let p = size (sized c) in
-    record { least = inside-low 12 _ p; most = inside-high 12 _ p; long = c .if2 .left ∙ c .before .layout .ensures .size }
-
-abbrev lasted : tie.Else3 → tie.Else2
-lasted c = c .before .before
-
-sound : (c : tie.Else3)
-    → let a = start (sized (lasted c)) .args in soundMember (a .n) (a .member) (memberOf (a .n) (words (a .block .now))) ≡ true
-sound c = allowed (c .before .sound-block .ensures) (c .if3 .left)
-
 returns : tie.Need-returns
 unfolding memberNumber
-returns c = rw (refused (c .before .is-numbered .ensures) (c .if1 .taken))
-
-layout-requires : tie.Need-layout-requires
-layout-requires c κs = inside-high 12 _ (size c)
+returns c = number-refuses _ (c .before .lent-number .ensures) (c .if1 .taken)
 
 returns-2 : tie.Need-returns-2
-unfolding memberNumber blockNumber
-returns-2 c = rw (size (c .before .before), ne-eqb _ _ (λ e. c .if2 .taken (e ∙ sym (c .before .layout .ensures .size))))
-
-sound-block-requires : tie.Need-sound-block-requires
-sound-block-requires c κs = whole c
+unfolding memberNumber
+returns-2 c =
+    let left = c .before .before in
+    number-passes (left .before .lent-number .ensures) (left .if1 .left) (rw (refused (c .before .is-numbered .ensures) (c .if2 .taken)))
 
 returns-3 : tie.Need-returns-3
-unfolding memberNumber blockNumber
+unfolding memberNumber
 returns-3 c =
     let left = c .before .before in
-    rw (size (sized left), eq-eqb _ _ (whole left .long), refused (c .before .sound-block .ensures) (c .if3 .taken))
-
-returns-4 : tie.Need-returns-4
-unfolding memberNumber blockNumber
-returns-4 c =
-    let left = c .before .before in
-    let w = lasted left in
-    rw (size (sized w), eq-eqb _ _ (whole w .long), sound left, refused (c .before .is-numbered2 .ensures) (c .if4 .taken))
-
-returns-5 : tie.Need-returns-5
-unfolding memberNumber blockNumber
-returns-5 c =
-    let left = c .before .before in
-    let w = lasted left in
-    rw (size (sized w), eq-eqb _ _ (whole w .long), sound left, allowed (c .before .is-numbered2 .ensures) (c .if4 .left))
+    number-passes (left .before .lent-number .ensures) (left .if1 .left) (rw (allowed (c .before .is-numbered .ensures) (c .if2 .left)))
 
 pub member-number-spec : {M : Type 1} → statement M
-member-number-spec =
-    tie.close
-    (tie.spec
-    (λ c κs. search needs) returns layout-requires returns-2 sound-block-requires returns-3 (λ c κs. search needs)
-    returns-4 returns-5)
+member-number-spec = tie.close (tie.spec (λ c κs. search needs) returns (λ c κs. search needs) returns-2 returns-3)

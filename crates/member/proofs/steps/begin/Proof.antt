@@ -48,10 +48,10 @@ add-block : tie.Need-add-block
 unfolding memberOf
 add-block c =
     let s = start (c .before) in
-    let slot = s .pre .1 .0 in
+    let slot = s .pre .slot in
     record {
       fits =
-          omega (arith, s .pre .1 .1, count-of (s .args .n) (words (s .args .block .now)) 5 (s .args .slot) (slot .least) (slot .most));
+          omega (arith, s .pre .room, count-of (s .args .n) (words (s .args .block .now)) 5 (s .args .slot) (slot .least) (slot .most));
     }
 
 slice-write-block : tie.Need-slice-write-block
@@ -89,13 +89,13 @@ returns c =
     let w = words (a .block .now) in
     let own = 5 + a .slot - 1 in
     let value = words (pending .carried .result) in
-    let o = holds-set (whole (s .pre .0)) own (w own + 1) (omega arith) in
+    let o = holds-set (whole (s .pre .block)) own (w own + 1) (omega arith) in
     let v = holds-pasted o (stores .store-value .last .0) (at .result .pending) 8 value (stores .store-value .kept .0)
     (stores .store-value .ensures) in
     let e = holds-set (holds-set (holds-set v 0 1 (omega arith)) 3 (a .slot) (omega arith)) 4 (a .operation) (omega arith) in
     ap (memberOf (a .n)) (e .same)
     ∙ rw (at .ensures .pending)
-    (begun-by (a .n) w (a .slot) (a .operation) (valueOf (words (a .value))) value (s .pre .1 .0 .least) (s .pre .1 .0 .most)
+    (begun-by (a .n) w (a .slot) (a .operation) (valueOf (words (a .value))) value (s .pre .slot .least) (s .pre .slot .most)
     (carried-value pending))
 
 pub begin-spec : {M : Type 1} → statement M

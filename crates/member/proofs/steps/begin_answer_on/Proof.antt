@@ -3,7 +3,6 @@ use borrow.Author.Needs.{needs}
 use mathlib.Core.Path.{ap, _∙_}
 use native.Mathlib.Omega.{arith}
 use Rattle.lists.specs.Parts.{words}
-use Rattle.model.specs.Kinds.{concur}
 use Rattle.model.specs.Numbers.{beginAnswer}
 use Rattle.model.specs.Table.{memberOf}
 use Rattle.member.proofs.Sizes.{head-room}
@@ -18,11 +17,11 @@ shared-slice-read-begin-answer-2 c = omega (arith, head-room (c .before .before 
 
 returns : tie.Need-returns
 unfolding memberOf
-returns c =
+returns c kind same =
     let a = c .before .before .before .before .before .args in
     let w = words (a .block .now) in
-    c .begin-answer .ensures
-    ∙ ap (λ count. beginAnswer concur (a .n) (w 0) (w 1) count (a .member) (a .slot) (a .operation))
+    c .begin-answer .ensures kind same
+    ∙ ap (λ count. beginAnswer kind (a .n) (w 0) (w 1) count (a .member) (a .slot) (a .operation))
     (c .before .before .before .own-count .ensures)
 
 pub begin-answer-on-spec : {M : Type 1} → statement M
