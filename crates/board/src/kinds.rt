@@ -38,9 +38,9 @@ fn begin_number(table: &[u32], most: u32) -> u32
     ensures { λ r. ⌜ ((kind : Kind) → most ≡ kind .most → r ≡ beginNumber kind (now (table .entry))) ⌝ }
     ensures { λ r. let l = now (table .entry) in ⌜ (r ≡ 0 → Sound (words l 0) l) ⌝ }
 {
-    let number = table_number(table);
-    if number != 0 {
-        return number;
+    let refused = table_number(table);
+    if refused != 0 {
+        return refused;
     }
     kind_number(most, table[0])
 }

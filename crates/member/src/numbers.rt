@@ -65,13 +65,13 @@ pub fn begin_number(
         → r ≡ memberBeginNumber kind n member (now (block .entry)) slot operation) ⌝ }
     ensures { λ r. ⌜ (r ≡ 0 → Begins n (now (block .entry)) slot) ⌝ }
 {
-    let number = lent_number(block, n, member);
-    if number != 0 {
-        return number;
+    let lent = lent_number(block, n, member);
+    let sized = kind_number(most, n);
+    if lent != 0 {
+        return lent;
     }
-    let number = kind_number(most, n);
-    if number != 0 {
-        return number;
+    if sized != 0 {
+        return sized;
     }
     begin_answer_on(block, limit, n, member, slot, operation)
 }

@@ -1,6 +1,8 @@
 // The rules that both halves share, as Kinds.antt and Numbers.antt have them: the kinds of board, the types of operation, what number 7
 // refuses, and the numbers that answer a begin, a deliver and a crash, by the member's numbers and the arguments.
 ghost use mathlib.Core.Path.{_≡_};
+ghost use mathlib.Core.Bool.{not, _||_};
+ghost use lib.Dec.{eqb};
 ghost use Rattle.lists.specs.Functions.{inside};
 ghost use Rattle.model.specs.Kinds.{Kind, isOperation, fitFields, barred};
 ghost use Rattle.model.specs.Numbers.{fieldsNumber, kindNumber, beginAnswer, deliverAnswer, crashAnswer};
@@ -93,6 +95,16 @@ pub fn kind_number(most: u32, n: u32) -> u32
     0
 }
 
+// What number 8 refuses: a begin of a member that is not in phase 0, or has crashed.
+fn is_busy(phase: u32, crashed: u32) -> bool
+    ensures { λ r. ⌜ r ≡ (not (eqb phase 0) || not (eqb crashed 0)) ⌝ }
+{
+    if phase != 0 {
+        return true;
+    }
+    crashed != 0
+}
+
 // 4 to 9, 9 where the own count has reached the kind's limit.
 pub fn begin_answer(
     limit: u32,
@@ -110,10 +122,8 @@ pub fn begin_answer(
     if number != 0 {
         return number;
     }
-    if phase != 0 {
-        return 8;
-    }
-    if crashed != 0 {
+    let busy = is_busy(phase, crashed);
+    if busy {
         return 8;
     }
     if limit <= count {

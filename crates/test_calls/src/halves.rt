@@ -13,6 +13,7 @@ ghost use Rattle.test_calls.specs.Beside.{beside, besideTwo};
 ghost use Rattle.test_calls.specs.Handed.{recordDue, bothDue, numberDue, recordGiven, repliedWords};
 use crate::words::BOTH_WORDS;
 use crate::words::RECORD_WORDS;
+use crate::words::VALUE_WORDS;
 use crate::words::load_at;
 use crate::words::store_both;
 use board::steps::hand_out;
@@ -41,7 +42,7 @@ pub extern "C" fn concur_call_member_begin(
         ≡ beside (now (value .entry)) valueSize (now (block .entry))
         (memberBeginWords concur n member (now (block .entry)) slot operation (valueOf (words (now (value .entry))))) ⌝ }
 {
-    if value.len() != 8 {
+    if value.len() != VALUE_WORDS {
         return 2;
     }
     let given = load_value(value, 0);
@@ -64,7 +65,7 @@ pub extern "C" fn concur_call_member_auction_begin(
         ≡ beside (now (value .entry)) valueSize (now (block .entry))
         (memberBeginWords auction n member (now (block .entry)) slot operation (valueOf (words (now (value .entry))))) ⌝ }
 {
-    if value.len() != 8 {
+    if value.len() != VALUE_WORDS {
         return 2;
     }
     let given = load_value(value, 0);

@@ -11,7 +11,9 @@ use records::Record;
 use records::steps::load_record;
 use records::steps::store_record;
 
-// How many words a record has, two records, and the fields of a message.
+// How many words a value has, a record, two records, and the fields of a message.
+pub const VALUE_WORDS: usize = 8;
+
 pub const RECORD_WORDS: usize = 156;
 
 pub const BOTH_WORDS: usize = 312;

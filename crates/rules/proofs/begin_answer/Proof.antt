@@ -1,11 +1,12 @@
--- `begin_answer` meets its contract: 4 to 7 are the call's, and each test behind it is the definition's ground, none before it having held.
+-- `begin_answer` meets its contract for the kind that has its limit: 4 to 7 are the call's, and each test behind it is the definition's
+-- ground, none before it having held.
 use borrow.Author.Needs.{needs}
 use Prim.Native.Nat.{_≤_, _<_}
 use mathlib.Core.Path.{_≡_, sym, _∙_}
+use mathlib.Core.Bool.{true, false, not, _||_}
 use native.Mathlib.Omega.{arith}
 use lib.Dec.{eqb}
-use mathlib.Core.Bool.{true}
-use borrow.Author.Tests.{eq-eqb, ne-eqb, le-leb, lt-leb}
+use borrow.Author.Tests.{le-leb, lt-leb}
 use Rattle.lists.proofs.Refusals.{number-refuses}
 use Rattle.model.specs.Numbers.{fieldsNumber, beginAnswer}
 use Rattle.rules.proofs.begin_answer.Statement.{statement}
@@ -19,11 +20,14 @@ start c = c .before .before
 fit : (c : tie.Else1) → let a = start c .args in fieldsNumber (a .n) (a .member) (a .slot) (a .operation) ≡ 0
 fit c = sym (c .before .fields-number .ensures) ∙ c .if1 .left
 
-idle : (c : tie.Else2) → eqb (start (c .before) .args .phase) 0 ≡ true
-idle c = eq-eqb _ 0 (c .if2 .left)
+abbrev asked : tie.After-is-busy → tie.Else1
+asked c = c .before
 
-up : (c : tie.Else3) → eqb (start (c .before .before) .args .crashed) 0 ≡ true
-up c = eq-eqb _ 0 (c .if3 .left)
+busy : (c : tie.Then2) → let a = start (asked (c .before)) .args in (not (eqb (a .phase) 0) || not (eqb (a .crashed) 0)) ≡ true
+busy c = sym (c .before .is-busy .ensures) ∙ c .if2 .taken
+
+free : (c : tie.Else2) → let a = start (asked (c .before)) .args in (not (eqb (a .phase) 0) || not (eqb (a .crashed) 0)) ≡ false
+free c = sym (c .before .is-busy .ensures) ∙ c .if2 .left
 
 -- The needs.
 
@@ -33,27 +37,23 @@ returns c kind same = number-refuses _ (c .before .fields-number .ensures) (c .i
 
 returns-2 : tie.Need-returns-2
 unfolding beginAnswer
-returns-2 c kind same = rw (fit (c .before), ne-eqb _ 0 (c .if2 .taken))
+returns-2 c kind same = rw (fit (asked (c .before)), busy c)
 
 returns-3 : tie.Need-returns-3
 unfolding beginAnswer
-returns-3 c kind same = let p = c .before in rw (fit (p .before), idle p, ne-eqb _ 0 (c .if3 .taken))
+returns-3 c kind same =
+    let left = c .before in
+    let count = start (asked (left .before)) .args .count in
+    let reached : kind .limit ≤ count = omega (arith, c .if3 .taken) in
+    rw (fit (asked (left .before)), free left, le-leb (kind .limit) count reached)
 
 returns-4 : tie.Need-returns-4
 unfolding beginAnswer
 returns-4 c kind same =
-    let p = c .before in
-    let count = start (p .before .before) .args .count in
-    let reached : kind .limit ≤ count = omega (arith, c .if4 .taken) in
-    rw (fit (p .before .before), idle (p .before), up p, le-leb (kind .limit) count reached)
-
-returns-5 : tie.Need-returns-5
-unfolding beginAnswer
-returns-5 c kind same =
-    let p = c .before in
-    let count = start (p .before .before) .args .count in
-    let room : count < kind .limit = omega (arith, c .if4 .left) in
-    rw (fit (p .before .before), idle (p .before), up p, lt-leb (kind .limit) count room)
+    let left = c .before in
+    let count = start (asked (left .before)) .args .count in
+    let room : count < kind .limit = omega (arith, c .if3 .left) in
+    rw (fit (asked (left .before)), free left, lt-leb (kind .limit) count room)
 
 pub begin-answer-spec : {M : Type 1} → statement M
-begin-answer-spec = tie.close (tie.spec (λ c κs. search needs) returns returns-2 returns-3 returns-4 returns-5)
+begin-answer-spec = tie.close (tie.spec (λ c κs. search needs) returns (λ c κs. search needs) returns-2 returns-3 returns-4)

@@ -10,46 +10,52 @@ use Rattle.member.proofs.Refusals.{lent, begin-good}
 use Rattle.member.proofs.numbers.begin_number.Statement.{statement}
 use Rattle.member.proofs.numbers.begin_number.Tie as tie
 
-abbrev start : tie.Else1 → tie.Start
+abbrev start : tie.After-kind-number → tie.Start
 start c = c .before .before .before
 
-passed : (c : tie.Else1) → let a = start c .args in lentNumber (a .n) (a .member) (a .block .now) ≡ 0
-passed c = sym (c .before .lent-number .ensures) ∙ c .if1 .left
+abbrev asked : tie.Else1 → tie.After-kind-number
+asked c = c .before
+
+-- what is lent refuses; and it passed
+refused : (c : tie.Then1) → let a = start (c .before) .args in (lentNumber (a .n) (a .member) (a .block .now) ≡ 0 → ⊥)
+refused c e = c .if1 .taken (c .before .before .lent-number .ensures ∙ e)
+
+passed : (c : tie.Else1) → let a = start (asked c) .args in lentNumber (a .n) (a .member) (a .block .now) ≡ 0
+passed c = sym (asked c .before .lent-number .ensures) ∙ c .if1 .left
 
 -- a kind that has the limit
 abbrev limited : tie.Else1 → Kind
-limited c = record { limit = start c .args .limit; most = 0; sized = omega arith }
+limited c = record { limit = start (asked c) .args .limit; most = 0; sized = omega arith }
 
 returns : tie.Need-returns
 unfolding memberBeginNumber
-returns c = (
-  λ kind limit most. number-refuses _ (c .before .lent-number .ensures) (c .if1 .taken),
-  λ z. absurd (c .if1 .taken z),
-)
+returns c =
+    let e = c .before .before .lent-number .ensures in
+    (λ kind limit most. number-refuses _ e (λ z. refused c (sym e ∙ z)), λ z. absurd (refused c (sym e ∙ z)))
 
 returns-2 : tie.Need-returns-2
 unfolding memberBeginNumber
 returns-2 c =
-    let left = c .before .before in (
-      λ kind limit most. number-passes (left .before .lent-number .ensures) (left .if1 .left)
-          (number-refuses _ (c .before .kind-number .ensures kind most) (c .if2 .taken)),
+    let left = c .before in (
+      λ kind limit most. number-passes {number = 0} (sym (passed left)) refl
+          (number-refuses _ (asked left .kind-number .ensures kind most) (c .if2 .taken)),
       λ z. absurd (c .if2 .taken z),
     )
 
 begin-answer-on-requires : tie.Need-begin-answer-on-requires
-begin-answer-on-requires c κs = lent _ _ _ (passed (c .before .before)) .block
+begin-answer-on-requires c κs = lent _ _ _ (passed (c .before)) .block
 
 returns-3 : tie.Need-returns-3
 unfolding memberBeginNumber
 returns-3 c =
-    let sized = c .before in
-    let left = sized .before .before in
-    let asked = c .begin-answer-on in (
-      λ kind limit most. number-passes (left .before .lent-number .ensures) (left .if1 .left)
-          (number-passes (sized .before .kind-number .ensures kind most) (sized .if2 .left) (asked .ensures kind limit)),
-      λ z. begin-good (limited left) (start left .fits .limit .fits) _ _ _ _ _ (passed left) (sym (asked .ensures (limited left) refl) ∙ z),
+    let left = c .before .before in
+    let answers = c .begin-answer-on in (
+      λ kind limit most. number-passes {number = 0} (sym (passed left)) refl
+          (number-passes (asked left .kind-number .ensures kind most) (c .before .if2 .left) (answers .ensures kind limit)),
+      λ z. begin-good (limited left) (start (asked left) .fits .limit .fits) _ _ _ _ _ (passed left)
+          (sym (answers .ensures (limited left) refl) ∙ z),
     )
 
 pub begin-number-spec : {M : Type 1} → statement M
 begin-number-spec =
-    tie.close (tie.spec (λ c κs. search needs) returns (λ c κs. search needs) returns-2 begin-answer-on-requires returns-3)
+    tie.close (tie.spec (λ c κs. search needs) (λ c κs. search needs) returns returns-2 begin-answer-on-requires returns-3)
