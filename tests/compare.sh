@@ -1,8 +1,8 @@
 #!/usr/bin/env bash
 # Usage: compare.sh OUTDIR   (after archives.sh and simulator/build.sh OUTDIR)
 # The proved C interface beside the simulator made apart: random, boundary and damaged tables and messages, every word compared; the message
-# reader and writer and the two halves alone, every word and byte compared; then every interleaving of three operations, own reads among
-# them, without and with one crash at every place, beside the reference. Ends with 1 at the first difference.
+# reader and writer and the two halves alone, every word and byte compared; then every interleaving of three operations, own reads and
+# auction boards among them, without and with one crash at every place, beside the reference. Ends with 1 at the first difference.
 set -eu
 cd "$(dirname "$0")/.."
 seed=20260601

@@ -21,6 +21,18 @@ pub const ABORTED: u32 = 2;
 pub type Sheet = [u32; 8];
 pub type Matrix = Vec<Vec<u32>>;
 
+/// What differs between boards that share all their steps. Nothing in a table
+/// says of which kind it is: opening and begin are each kind's own.
+#[derive(Clone, Copy, Debug, PartialEq, Eq)]
+pub struct Kind {
+    pub most: u32,  // members
+    pub limit: u32, // the own count from which on begin answers 9
+}
+
+pub const COMMON: Kind = Kind { most: 12, limit: 4_294_967_295 };
+pub const AUCTION: Kind = Kind { most: 4, limit: 9_999 };
+pub const KINDS: [Kind; 2] = [COMMON, AUCTION];
+
 #[derive(Clone, Debug, PartialEq, Eq)]
 pub struct Record {
     pub member: u32,
@@ -436,12 +448,12 @@ fn operation_grounds(n: u32, member: u32, slot: u32, op_type: u32) -> u32 {
     0
 }
 
-/// Numbers 8 and 9.
-fn begin_grounds(block: &Block, slot: u32) -> u32 {
+/// Numbers 8 and 9. A lent block may hold a count above the limit.
+fn begin_grounds(block: &Block, slot: u32, limit: u32) -> u32 {
     if block.phase != IDLE || block.crash_mark == 1 {
         return 8;
     }
-    if block.own_counts[slot as usize - 1] == u32::MAX {
+    if block.own_counts[slot as usize - 1] >= limit {
         return 9;
     }
     0
@@ -695,57 +707,97 @@ fn step_host_commit(entry: &mut Entry, record: &Record) -> u32 {
     ACCEPTED
 }
 
-// ---------------------------------------------------------------- the board
+// ---------------------------------------------------------------- the board: opening and begin, then the common steps
 
-/// Opens a lent table: numbers 1 and 2 only.
-pub fn open(table: &mut [u32], n: u32) -> u32 {
-    if !n_is_good(n) {
-        return 1;
+impl Kind {
+    /// Opens a lent table: numbers 1 and 2 only.
+    pub fn open(self, table: &mut [u32], n: u32) -> u32 {
+        if !in_range(n, self.most) {
+            return 1;
+        }
+        if table.len() != table_words(n) {
+            return 2;
+        }
+        for i in 0..table.len() {
+            table[i] = 0;
+        }
+        table[0] = n;
+        for slot in 1..=n {
+            let entry = Entry {
+                submit_member: 0,
+                submit_count: 0,
+                stored: opening_record(n, slot),
+                newest: opening_record(n, slot),
+            };
+            put_entry(table, slot, &entry);
+        }
+        0
     }
-    if table.len() != table_words(n) {
-        return 2;
+
+    /// Number 1 at a begin, after the number of what was lent.
+    fn after(self, fault: u32, n: u32) -> u32 {
+        if fault == 0 && n > self.most {
+            return 1;
+        }
+        fault
     }
-    for i in 0..table.len() {
-        table[i] = 0;
+
+    /// What begin asks of the table: its own numbers, then 1.
+    pub fn check_table(self, table: &[u32]) -> u32 {
+        self.after(check_table(table), table.first().copied().unwrap_or(0))
     }
-    table[0] = n;
-    for slot in 1..=n {
-        let entry = Entry {
-            submit_member: 0,
-            submit_count: 0,
-            stored: opening_record(n, slot),
-            newest: opening_record(n, slot),
-        };
-        put_entry(table, slot, &entry);
+
+    /// The same of a block.
+    pub fn check_block(self, words: &[u32], n: u32, member: u32) -> u32 {
+        self.after(check_block(words, n, member), n)
     }
-    0
+
+    pub fn begin(self, table: &mut [u32], member: u32, slot: u32, op_type: u32, sheet: &Sheet) -> u32 {
+        let fault = self.check_table(table);
+        if fault != 0 {
+            return fault;
+        }
+        let n = table[0];
+        let ground = operation_grounds(n, member, slot, op_type);
+        if ground != 0 {
+            return ground;
+        }
+        let mut block = block_of(table, member);
+        let ground = begin_grounds(&block, slot, self.limit);
+        if ground != 0 {
+            return ground;
+        }
+        step_begin(&mut block, slot, op_type, sheet);
+        put_block(table, member, &block);
+        0
+    }
+
+    /// The member half begins, and hands out the submit to be sent.
+    pub fn half_begin(self, words: &mut [u32], n: u32, member: u32, slot: u32, op_type: u32, sheet: &Sheet) -> Result<Submit, u32> {
+        let fault = self.check_block(words, n, member);
+        if fault != 0 {
+            return Err(fault);
+        }
+        let ground = operation_grounds(n, member, slot, op_type);
+        if ground != 0 {
+            return Err(ground);
+        }
+        let mut block = block_from_words(words, n);
+        let ground = begin_grounds(&block, slot, self.limit);
+        if ground != 0 {
+            return Err(ground);
+        }
+        step_begin(&mut block, slot, op_type, sheet);
+        words.copy_from_slice(&block_to_words(&block));
+        Ok(Submit { member, slot, op_type, count: own_count(&block) })
+    }
 }
 
 /// A fresh table, for an n of 1 to 12.
 pub fn new_table(n: u32) -> Vec<u32> {
     let mut table = vec![0; table_words(n)];
-    assert_eq!(open(&mut table, n), 0);
+    assert_eq!(COMMON.open(&mut table, n), 0);
     table
-}
-
-pub fn begin(table: &mut [u32], member: u32, slot: u32, op_type: u32, sheet: &Sheet) -> u32 {
-    let fault = check_table(table);
-    if fault != 0 {
-        return fault;
-    }
-    let n = table[0];
-    let ground = operation_grounds(n, member, slot, op_type);
-    if ground != 0 {
-        return ground;
-    }
-    let mut block = block_of(table, member);
-    let ground = begin_grounds(&block, slot);
-    if ground != 0 {
-        return ground;
-    }
-    step_begin(&mut block, slot, op_type, sheet);
-    put_block(table, member, &block);
-    0
 }
 
 pub fn deliver(table: &mut [u32], member: u32) -> Answer {
@@ -811,27 +863,7 @@ pub fn crash(table: &mut [u32], member: u32) -> u32 {
     0
 }
 
-// ------------------------------------------------- the member half, on a block
-
-/// Begins, and hands out the submit to be sent.
-pub fn half_begin(words: &mut [u32], n: u32, member: u32, slot: u32, op_type: u32, sheet: &Sheet) -> Result<Submit, u32> {
-    let fault = check_block(words, n, member);
-    if fault != 0 {
-        return Err(fault);
-    }
-    let ground = operation_grounds(n, member, slot, op_type);
-    if ground != 0 {
-        return Err(ground);
-    }
-    let mut block = block_from_words(words, n);
-    let ground = begin_grounds(&block, slot);
-    if ground != 0 {
-        return Err(ground);
-    }
-    step_begin(&mut block, slot, op_type, sheet);
-    words.copy_from_slice(&block_to_words(&block));
-    Ok(Submit { member, slot, op_type, count: own_count(&block) })
-}
+// ------------------------------------------------- the member half, on a block; it begins above
 
 /// Takes a reply. A refusal has looked at no pair.
 pub fn half_take_reply(words: &mut [u32], n: u32, member: u32, seals: u32, newest: &Record, stored: &Record) -> Result<Taken, u32> {

@@ -1,11 +1,13 @@
 // The calls on the message reader, the writer and the two halves, in the
 // form that the library and the simulator share.
 
+use crate::board::{Kind, AUCTION};
+
 /// Each answers its number. Slices are what is lent, given and filled.
 pub trait Calls {
     fn read(bytes: &[u8], n: u32, fields: &mut [u32]) -> u32;
     fn write(fields: &[u32], n: u32, out: &mut [u8], written: &mut [u32]) -> u32;
-    fn begin(block: &mut [u32], n: u32, member: u32, slot: u32, op_type: u32, value: &[u32]) -> u32;
+    fn begin(kind: Kind, block: &mut [u32], n: u32, member: u32, slot: u32, op_type: u32, value: &[u32]) -> u32;
     fn reply(block: &mut [u32], n: u32, member: u32, records: &[u32], seals: u32, pairs: &mut [u32]) -> u32;
     fn outcome(block: &mut [u32], n: u32, member: u32, outcome: u32, returned: &mut [u32]) -> u32;
     fn crash(block: &mut [u32], n: u32, member: u32) -> u32;
@@ -17,7 +19,7 @@ pub trait Calls {
 pub enum Call {
     Read { n: u32 },
     Write { n: u32 },
-    Begin { n: u32, member: u32, slot: u32, op_type: u32 },
+    Begin { kind: Kind, n: u32, member: u32, slot: u32, op_type: u32 },
     Reply { n: u32, member: u32, seals: u32 },
     Outcome { n: u32, member: u32, outcome: u32 },
     Crash { n: u32, member: u32 },
@@ -25,7 +27,9 @@ pub enum Call {
     Commit { n: u32 },
 }
 
-pub const NAMES: [&str; 8] = ["read", "write", "begin", "reply", "outcome", "crash", "submit", "commit"];
+/// How many calls there are.
+pub const CALLS: usize = 9;
+pub const NAMES: [&str; CALLS] = ["read", "write", "begin", "reply", "outcome", "crash", "submit", "commit", "auction begin"];
 
 /// What a call is lent beside its numbers; a part that it has not is empty.
 #[derive(Clone, Debug, Default)]
@@ -42,6 +46,7 @@ impl Call {
         match self {
             Call::Read { .. } => 0,
             Call::Write { .. } => 1,
+            Call::Begin { kind: AUCTION, .. } => 8,
             Call::Begin { .. } => 2,
             Call::Reply { .. } => 3,
             Call::Outcome { .. } => 4,
@@ -70,7 +75,7 @@ impl Call {
         match *self {
             Call::Read { n } => C::read(bytes, n, results),
             Call::Write { n } => C::write(given, n, bytes, results),
-            Call::Begin { n, member, slot, op_type } => C::begin(words, n, member, slot, op_type, given),
+            Call::Begin { kind, n, member, slot, op_type } => C::begin(kind, words, n, member, slot, op_type, given),
             Call::Reply { n, member, seals } => C::reply(words, n, member, given, seals, results),
             Call::Outcome { n, member, outcome } => C::outcome(words, n, member, outcome, results),
             Call::Crash { n, member } => C::crash(words, n, member),

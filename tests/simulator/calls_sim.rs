@@ -2,7 +2,7 @@
 // block, the entries, the bytes or the output that is not the named one is
 // number 2 before all else, and then the places for results stay as they were.
 
-use crate::board::{self, n_is_good, Submit};
+use crate::board::{self, n_is_good, Kind, Submit};
 use crate::calls::Calls;
 use crate::flat::*;
 use crate::messages;
@@ -44,9 +44,9 @@ impl Calls for Simulator {
         number_of(answer)
     }
 
-    fn begin(block: &mut [u32], n: u32, member: u32, slot: u32, op_type: u32, value: &[u32]) -> u32 {
+    fn begin(kind: Kind, block: &mut [u32], n: u32, member: u32, slot: u32, op_type: u32, value: &[u32]) -> u32 {
         match value.try_into() {
-            Ok(sheet) => number_of(board::half_begin(block, n, member, slot, op_type, &sheet)),
+            Ok(sheet) => number_of(kind.half_begin(block, n, member, slot, op_type, &sheet)),
             Err(_) => 2,
         }
     }

@@ -449,7 +449,7 @@ fn bad_line(rng: &mut Rng) -> Vec<u8> {
 /// which does no harm.
 fn random_script(rng: &mut Rng, n: u32, steps: u32, slots: u32, crash_once_in: u64, bad_once_in: u64) -> Vec<u8> {
     let mut text = format!("members {}\n", n).into_bytes();
-    let mut book = Book::new(n);
+    let mut book = Book::new(n, u32::MAX);
     for _ in 0..steps {
         if rng.once_in(bad_once_in) {
             text.extend(bad_line(rng));

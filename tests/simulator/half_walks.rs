@@ -10,7 +10,7 @@ use crate::flat::*;
 use crate::message_cases::LONGEST;
 use crate::messages::Message;
 use crate::noise::noisy_fields;
-use crate::random::{allowed_type, random_sheet};
+use crate::random::{allowed_type, any_kind, random_sheet};
 use crate::rng::Rng;
 
 const NEVER: u64 = 0;
@@ -27,6 +27,7 @@ struct Walk<'a> {
     both: &'a mut Both,
     rng: Rng,
     style: Style,
+    kind: Kind,
     n: u32,
     blocks: Vec<Vec<u32>>,
     entries: Vec<u32>,
@@ -76,7 +77,7 @@ impl Walk<'_> {
     fn begin(&mut self, member: u32) {
         let slot = self.rng.between(1, self.style.slots);
         let op_type = allowed_type(&mut self.rng, member, slot);
-        let call = Call::Begin { n: self.n, member, slot, op_type };
+        let call = Call::Begin { kind: self.kind, n: self.n, member, slot, op_type };
         let sheet = random_sheet(&mut self.rng).to_vec();
         self.ask_member(&call, member, sheet);
     }
@@ -175,7 +176,8 @@ impl Walk<'_> {
 
 pub fn walk(seed: u64, both: &mut Both) {
     let mut rng = Rng::new(seed);
-    let n = rng.between(1, 12);
+    let kind = any_kind(&mut rng);
+    let n = rng.between(1, kind.most);
     let honest = rng.once_in(3);
     let style = Style {
         crash: *rng.pick(&[100, 1000, NEVER]),
@@ -183,17 +185,17 @@ pub fn walk(seed: u64, both: &mut Both) {
         damage: if honest { NEVER } else { *rng.pick(&[12, 60, NEVER]) },
         slots: rng.between(1, n),
     };
-    let late = rng.once_in(5); // the own counts are near their end
+    let late = rng.once_in(5); // the own counts are near the limit, or just above it
     let mut blocks = Vec::new();
     for _ in 1..=n {
         let mut block = block_from_words(&vec![0; block_words(n)], n);
         if late {
-            block.own_counts.fill(u32::MAX - rng.between(0, 3));
+            block.own_counts.fill(kind.limit.saturating_add(1) - rng.between(0, 4));
         }
         blocks.push(block_to_words(&block));
     }
     let entries = new_table(n)[entries_start(n)..].to_vec();
-    let mut walk = Walk { both, rng, style, n, blocks, entries, mail: vec![None; n as usize], old: Vec::new() };
+    let mut walk = Walk { both, rng, style, kind, n, blocks, entries, mail: vec![None; n as usize], old: Vec::new() };
     walk.both.walking = true;
     for _ in 0..if late { 100 } else { 60 * n.max(3) } {
         walk.step();

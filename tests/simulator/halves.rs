@@ -4,6 +4,7 @@
 #![allow(dead_code)]
 
 mod arguments;
+mod begin_cases;
 mod board;
 mod both;
 mod calls;

@@ -3,7 +3,8 @@
 // the 16 places. By three members there are 756,756, and 36,324,288 with a
 // crash; where two of the operations are one member's, one after the other,
 // 3,003 and 144,144. Compares each call with the book of a run: answer, phases,
-// returned. Ends with 1 where any differs, or where not all were walked.
+// returned. Ends with 1 where any differs, or where not all were walked. Some
+// are walked once more on an auction board, up to its limit.
 // Usage: interleavings [without-crashes]
 //
 // Interleavings that start alike share the work of their start: the table and
@@ -14,6 +15,7 @@ mod board;
 mod c_lib;
 mod reference;
 
+use board::{Kind, AUCTION, COMMON};
 use reference::{Book, Call, Sheet};
 use std::time::Instant;
 
@@ -28,6 +30,8 @@ const FORKS: usize = 17; // no walk forks more often
 /// other as they stand here.
 struct Plan {
     name: &'static str,
+    kind: Kind,
+    left: Option<u32>, // how often each member may still begin on each slot, if that is set
     operations: [(u32, u32, u32); 3],
     all: u64, // how many interleavings there are
 }
@@ -39,6 +43,13 @@ impl Plan {
 
     fn slot(&self, op: usize) -> u32 {
         self.operations[op].1
+    }
+
+    /// Do those before it use up what is left to its member on its slot?
+    fn spent(&self, op: usize) -> bool {
+        let whose = |op: usize| (self.member(op), self.slot(op));
+        let before = (0..op).filter(|before| whose(*before) == whose(op)).count();
+        self.left.is_some_and(|left| before as u32 >= left)
     }
 
     /// Has it a step left, and has its member no operation before it under way?
@@ -82,13 +93,17 @@ impl State {
         } else {
             Call::Deliver { member }
         };
-        let answer = both(&mut self.table, &mut self.book, &call);
+        let answer = both(plan.kind, &mut self.table, &mut self.book, &call);
         self.place += 1;
         self.done[op] += 1;
-        if answer != 0 {
-            if self.crashed != Some(member) {
-                fail(&format!("{:?} of a member that has not crashed is answered {}", call, answer));
+        if self.crashed != Some(member) {
+            let refused = if self.done[op] == 1 { 9 } else { 10 };
+            let expected = if plan.spent(op) { refused } else { 0 };
+            if answer != expected {
+                fail(&format!("{:?} of a member that has not crashed is answered {}, expected {}", call, answer, expected));
             }
+        }
+        if answer != 0 {
             return;
         }
         if self.done[op] == 2 {
@@ -99,8 +114,8 @@ impl State {
         }
     }
 
-    fn crash(&mut self, member: u32) {
-        both(&mut self.table, &mut self.book, &Call::Crash { member });
+    fn crash(&mut self, plan: &Plan, member: u32) {
+        both(plan.kind, &mut self.table, &mut self.book, &Call::Crash { member });
         self.crashed = Some(member);
     }
 }
@@ -131,11 +146,11 @@ fn phase_in(table: &[u32], member: u32) -> u32 {
     table[board::block_start(N, member)]
 }
 
-/// One call on the library and in the book.
-fn both(table: &mut Vec<u32>, book: &mut Book, call: &Call) -> u32 {
+/// One call on the library and in the book. A begin is the kind's own.
+fn both(kind: Kind, table: &mut Vec<u32>, book: &mut Book, call: &Call) -> u32 {
     let mut out = [0x5C5C_5C5Cu32; 9];
     let by_lib = match call {
-        Call::Begin { member, slot, op_type, sheet } => c_lib::begin(table, *member, *slot, *op_type, sheet),
+        Call::Begin { member, slot, op_type, sheet } => c_lib::begin(kind, table, *member, *slot, *op_type, sheet),
         Call::Deliver { member } => c_lib::deliver(table, *member, &mut out),
         Call::Crash { member } => c_lib::crash(table, *member),
     };
@@ -164,18 +179,25 @@ fn both(table: &mut Vec<u32>, book: &mut Book, call: &Call) -> u32 {
     by_book
 }
 
-/// A board on which each member has written its slot once.
-fn start() -> State {
+/// A board on which each member has written its slot once, its own counts
+/// then those that the plan leaves, in the table and in the book.
+fn start(plan: &Plan) -> State {
     let mut table = vec![0; c_lib::words(N) as usize];
-    if c_lib::open(&mut table, N) != 0 {
+    if c_lib::open(plan.kind, &mut table, N) != 0 {
         fail("open");
     }
-    let mut book = Book::new(N);
+    let mut book = Book::new(N, plan.kind.limit);
     for member in 1..=N {
         let call = Call::Begin { member, slot: member, op_type: board::WRITE, sheet: sheet_of(member, 100 + member) };
-        both(&mut table, &mut book, &call);
+        both(plan.kind, &mut table, &mut book, &call);
         for _ in 0..4 {
-            both(&mut table, &mut book, &Call::Deliver { member });
+            both(plan.kind, &mut table, &mut book, &Call::Deliver { member });
+        }
+        if let Some(left) = plan.left {
+            let mut block = board::block_of(&table, member);
+            block.own_counts.fill(plan.kind.limit - left);
+            board::put_block(&mut table, member, &block);
+            book.members[member as usize - 1].begins = block.own_counts;
         }
     }
     book.history.clear();
@@ -203,7 +225,7 @@ impl Walk<'_> {
         if self.crashes && self.states[fork].crashed.is_none() {
             for member in 1..=N {
                 self.copy_on(fork);
-                self.states[fork + 1].crash(member);
+                self.states[fork + 1].crash(self.plan, member);
                 self.with.calls += 1;
                 self.walk(fork + 1);
             }
@@ -269,7 +291,8 @@ fn report(name: &str, count: &Count, all: u64) {
 
 fn walk_all(plan: &Plan, crashes: bool) {
     let began = Instant::now();
-    let mut walk = Walk { plan, crashes, states: vec![start(); FORKS], without: Count::default(), with: Count::default() };
+    let states = vec![start(plan); FORKS];
+    let mut walk = Walk { plan, crashes, states, without: Count::default(), with: Count::default() };
     walk.walk(0);
     report(plan.name, &walk.without, plan.all);
     if crashes {
@@ -279,10 +302,12 @@ fn walk_all(plan: &Plan, crashes: bool) {
 }
 
 /// On one slot every mix that has an own read in it, but for those of one
-/// member alone; on several slots some.
+/// member alone; on several slots some. On auction boards all operations are
+/// the last that their members have there, or come after it.
 fn plans() -> Vec<Plan> {
     let (r, w) = (board::READ, board::WRITE);
-    let plan = |name, operations, all| Plan { name, operations, all };
+    let plan = |name, operations, all| Plan { name, kind: COMMON, left: None, operations, all };
+    let auction = |name, left, operations, all| Plan { name, kind: AUCTION, left: Some(left), operations, all };
     vec![
         plan("one slot", [(1, 3, r), (2, 3, r), (3, 3, w)], OF_THREE),
         plan("mixed slots", [(1, 1, w), (2, 1, r), (3, 2, r)], OF_THREE),
@@ -293,6 +318,12 @@ fn plans() -> Vec<Plan> {
         plan("own read, own write", [(1, 1, r), (1, 1, w), (2, 1, r)], OF_TWO),
         plan("own read twice", [(1, 1, r), (1, 1, r), (2, 1, r)], OF_TWO),
         plan("own read, a neighbour's twice", [(1, 1, r), (2, 1, r), (2, 1, r)], OF_TWO),
+        auction("auction, one slot", 1, [(1, 3, r), (2, 3, r), (3, 3, w)], OF_THREE),
+        auction("auction, own write, own read", 2, [(1, 1, w), (1, 1, r), (2, 1, r)], OF_TWO),
+        auction("auction, own write, a read too many", 1, [(1, 1, w), (1, 1, r), (2, 1, r)], OF_TWO),
+        auction("auction, own read, a write too many", 1, [(1, 1, r), (1, 1, w), (2, 1, r)], OF_TWO),
+        auction("auction, own read, a neighbour's too many", 1, [(1, 1, r), (2, 1, r), (2, 1, r)], OF_TWO),
+        auction("auction, two slots", 1, [(1, 1, w), (1, 2, r), (2, 1, r)], OF_TWO),
     ]
 }
 

@@ -1,25 +1,28 @@
 // Lengths that are not the named ones, with a good n and with others.
 
+use crate::board::{AUCTION, COMMON};
 use crate::both::Both;
-use crate::calls::{Call, Lent};
+use crate::calls::{Call, Lent, CALLS};
 use crate::message_cases::{bytes_of, random_message};
 use crate::random::*;
 use crate::rng::Rng;
 
-const SOME_N: [u32; 18] = [0, 1, 2, 3, 4, 5, 6, 7, 8, 9, 10, 11, 12, 13, 255, 256, 268, u32::MAX];
+const SOME_N: [u32; 19] = [0, 1, 2, 3, 4, 5, 6, 7, 8, 9, 10, 11, 12, 13, 255, 256, 260, 268, u32::MAX];
 
-fn any_call(rng: &mut Rng, place: u64, n: u32) -> Call {
+/// The call at this place in NAMES.
+fn any_call(rng: &mut Rng, place: usize, n: u32) -> Call {
     let (member, slot) = (any_number(rng, n), any_number(rng, n));
     let op_type = allowed_type(rng, member, slot);
     match place {
         0 => Call::Read { n },
         1 => Call::Write { n },
-        2 => Call::Begin { n, member, slot, op_type },
+        2 => Call::Begin { kind: COMMON, n, member, slot, op_type },
         3 => Call::Reply { n, member, seals: rng.between(0, 4) },
         4 => Call::Outcome { n, member, outcome: rng.between(0, 3) },
         5 => Call::Crash { n, member },
         6 => Call::Submit { n, member, slot, op_type, count: rng.word() },
-        _ => Call::Commit { n },
+        7 => Call::Commit { n },
+        _ => Call::Begin { kind: AUCTION, n, member, slot, op_type },
     }
 }
 
@@ -55,7 +58,7 @@ fn about(right: usize) -> Vec<usize> {
 pub fn fixed(both: &mut Both) {
     let mut rng = Rng::new(61);
     for n in SOME_N {
-        for place in 0..8 {
+        for place in 0..CALLS {
             for right in 1..=12 {
                 let call = any_call(&mut rng, place, n);
                 let lent = lent_for(&mut rng, &call, right);
@@ -85,7 +88,7 @@ pub fn fixed(both: &mut Both) {
 
 pub fn random_round(seed: u64, both: &mut Both) {
     let mut rng = Rng::new(seed);
-    for place in 0..8 {
+    for place in 0..CALLS {
         let right = rng.between(1, 12);
         let n = if rng.once_in(6) { *rng.pick(&SOME_N) } else { right };
         let call = any_call(&mut rng, place, n);

@@ -1,8 +1,9 @@
 // The member half on one block: what is asked of it.
 
+use crate::begin_cases::{begin_case, BEGIN_CASES};
 use crate::board::*;
 use crate::both::Both;
-use crate::calls::Call;
+use crate::calls::{Call, Lent};
 use crate::noise::noisy_records;
 use crate::random::*;
 use crate::replies::*;
@@ -22,9 +23,12 @@ fn every_call(both: &mut Both, rng: &mut Rng, block: &[u32], n: u32, member: u32
     let opening = opening_record(n, block.get(3).copied().unwrap_or(1).clamp(1, n));
     let records = noisy_records(rng, &opening, &opening, n);
     let sheet = random_sheet(rng).to_vec();
-    for (slot, op_type) in [(member, WRITE), (member, READ), (other, READ)] {
-        both.words(&Call::Begin { n, member, slot, op_type }, &mut block.to_vec(), sheet.clone());
+    let begins = [(member, WRITE), (member, READ), (other, READ)];
+    for (slot, op_type) in begins {
+        both.words(&Call::Begin { kind: COMMON, n, member, slot, op_type }, &mut block.to_vec(), sheet.clone());
     }
+    let (slot, op_type) = *rng.pick(&begins);
+    both.words(&Call::Begin { kind: AUCTION, n, member, slot, op_type }, &mut block.to_vec(), sheet.clone());
     both.words(&Call::Reply { n, member, seals: 3 }, &mut block.to_vec(), records);
     both.words(&Call::Outcome { n, member, outcome: ACCEPTED }, &mut block.to_vec(), vec![]);
     both.words(&Call::Outcome { n, member, outcome: ABORTED }, &mut block.to_vec(), vec![]);
@@ -76,7 +80,7 @@ fn every_word(both: &mut Both, rng: &mut Rng, block: &[u32], n: u32, member: u32
 /// for its reply and for its outcome, with boundary values.
 fn fixed_words(both: &mut Both) {
     let mut rng = Rng::new(42);
-    for (n, words) in [(1, 10), (2, 10), (3, 10), (12, 2)] {
+    for (n, words) in [(1, 10), (2, 10), (3, 10), (5, 2), (12, 2)] {
         let edges = [u32::MAX, n + 1, 0, 1, 2, 3, 7, 21, 28, u32::MAX - 1];
         for phase in [IDLE, SUBMIT_SENT, COMMIT_SENT] {
             let member = rng.between(1, n);
@@ -89,7 +93,22 @@ fn fixed_words(both: &mut Both) {
     }
 }
 
-/// Every slot, type and member of a begin; the last counts.
+/// A begin of each kind with these numbers and each count that stands about a limit.
+fn begins_of(both: &mut Both, rng: &mut Rng, n: u32, member: u32, slot: u32, op_type: u32) {
+    for count in COUNTS {
+        let mut block = idle_block(n);
+        block.own_counts.fill(count);
+        block.phase = if rng.once_in(8) { HALTED } else { IDLE };
+        block.crash_mark = rng.once_in(8) as u32;
+        let words = block_to_words(&block);
+        for kind in KINDS {
+            let call = Call::Begin { kind, n, member, slot, op_type };
+            both.words(&call, &mut words.clone(), random_sheet(rng).to_vec());
+        }
+    }
+}
+
+/// Every slot, type and member of a begin.
 fn fixed_begins(both: &mut Both) {
     let mut rng = Rng::new(43);
     for n in 1..=12 {
@@ -98,14 +117,28 @@ fn fixed_begins(both: &mut Both) {
         for member in &numbers {
             for slot in &numbers {
                 for op_type in [0, 1, 2, 3, 257, u32::MAX] {
-                    for count in [0, u32::MAX - 1, u32::MAX] {
-                        let mut block = idle_block(n);
-                        block.own_counts.fill(count);
-                        block.phase = if rng.once_in(8) { HALTED } else { IDLE };
-                        block.crash_mark = rng.once_in(8) as u32;
-                        let call = Call::Begin { n, member: *member, slot: *slot, op_type };
-                        both.words(&call, &mut block_to_words(&block), random_sheet(&mut rng).to_vec());
-                    }
+                    begins_of(both, &mut rng, n, *member, *slot, op_type);
+                }
+            }
+        }
+    }
+}
+
+/// Each ground of a begin beside each other; the half may be told another n.
+fn fixed_orders(both: &mut Both) {
+    for n in 1..=12 {
+        for kind in KINDS {
+            for number in 0..BEGIN_CASES {
+                let case = begin_case(kind, n, number);
+                let mut words = block_to_words(&case.block);
+                if case.unsound {
+                    words[second_start(n)] = n + 1;
+                }
+                words.truncate(words.len() - case.short as usize);
+                for told in [n, 0, 13] {
+                    let call = Call::Begin { kind, n: told, member: case.member, slot: case.slot, op_type: case.op_type };
+                    let mut lent = Lent { words: words.clone(), given: vec![4; case.value_words], ..Lent::default() };
+                    both.ask(&call, &mut lent);
                 }
             }
         }
@@ -187,6 +220,7 @@ pub fn fixed(both: &mut Both) {
     fixed_heads(both);
     fixed_words(both);
     fixed_begins(both);
+    fixed_orders(both);
     fixed_fields(both);
     fixed_faults(both);
 }
@@ -231,7 +265,7 @@ fn near_round(both: &mut Both, rng: &mut Rng, n: u32) {
     }
     both.words(&Call::Outcome { n, member, outcome: rng.between(1, 2) }, &mut words, vec![]);
     let slot = rng.between(1, n);
-    let call = Call::Begin { n, member, slot, op_type: allowed_type(rng, member, slot) };
+    let call = Call::Begin { kind: any_kind(rng), n, member, slot, op_type: allowed_type(rng, member, slot) };
     both.words(&call, &mut words, random_sheet(rng).to_vec());
 }
 
@@ -257,7 +291,7 @@ fn any_call(both: &mut Both, rng: &mut Rng, block: &mut Vec<u32>, n: u32, member
             both.words(&Call::Reply { n, member, seals: some_seals(rng) }, block, given);
         }
         _ => {
-            let call = Call::Begin { n, member, slot: any_number(rng, n), op_type: any_type(rng) };
+            let call = Call::Begin { kind: any_kind(rng), n, member, slot: any_number(rng, n), op_type: any_type(rng) };
             both.words(&call, block, random_sheet(rng).to_vec());
         }
     }

@@ -130,7 +130,7 @@ library "begin zeroes the messages" board.rs 's/block.phase = SUBMIT_SENT;\n\}/b
 library "a crashed member gets replies" board.rs 's/to_the_member && block.crash_mark == 1/false/'
 library "a crashed member sends nothing" board.rs 's/to_the_member && block.crash_mark == 1/block.crash_mark == 1/'
 library "crash of a halted member" board.rs 's/block.crash_mark == 1 \|\| block.phase == HALTED/block.crash_mark == 1/'
-library "9 one early" board.rs 's/== u32::MAX \{\n        return 9/>= u32::MAX - 1 {\n        return 9/'
+library "9 one early" board.rs 's/>= limit \{\n        return 9/>= limit - 1 {\n        return 9/'
 library "5 before 4" board.rs 's/return 4;\n    \}\n    if !in_range\(slot, n\) \{\n        return 5/return if in_range(slot, n) { 4 } else { 5 };\n    }\n    if !in_range(slot, n) {\n        return 5/'
 library "second message record not checked" board.rs 's/ \|\| record_words_bad\(&words\[second_start\(n\)..\], n\)//'
 library "newest record not checked" board.rs 's/\n        \|\| record_words_bad\(&words\[2 \+ record_words\(n\)..\], n\)//'
@@ -284,6 +284,116 @@ everywhere "3 at a running own read" "s/($refused)/\$1 || (op_type == READ \\&\\
 everywhere "3 at an own read in phase 5" "s/($refused)/\$1 || (phase == 5 \\&\\& op_type == READ \\&\\& slot == member)/"
 everywhere "no 3 at a running write to another's slot" "s/$refused//"
 
+# Auction boards: the limit and how many members. What is wrong on these boards alone is told by their limit.
+in_auction='self.limit == 9_999'
+for limit in 9_998 10_000; do
+    everywhere "auction boards close at $limit" "s/limit: 9_999/limit: $limit/" too
+done
+everywhere "auction boards are closed" 's/limit: 9_999/limit: 0/'
+everywhere "auction boards close as common ones do" 's/limit: 9_999/limit: u32::MAX/'
+everywhere "common boards close at 9,999" 's/limit: 4_294_967_295/limit: 9_999/'
+everywhere "common boards close one early" 's/limit: 4_294_967_295/limit: 4_294_967_294/'
+nine='(fn begin_grounds.*?own_counts\[.*?\]) >= limit'
+everywhere "9 at the limit alone" "s/$nine/\$1 == limit/s"
+everywhere "9 above the limit alone" "s/$nine/\$1 > limit/s"
+everywhere "9 by the low half of the count" "s/$nine/\$1 as u16 >= limit as u16/s"
+everywhere "9 by counts with a sign" \
+    "s/$nine/\$1 as i32 >= limit as i32 \\&\\& limit == 9_999 || block.own_counts[slot as usize - 1] == u32::MAX/s"
+everywhere "9 by the accepted count" 's/(fn begin_grounds.*?)own_counts/$1accepted_counts/s'
+everywhere "9 where any slot's count is spent" \
+    's/(fn begin_grounds.*?)block.own_counts\[.*?\] >= limit/$1block.own_counts.iter().any(|count| *count >= limit)/s'
+everywhere "9 before 8" 's/(fn begin_grounds.*?\n)(    if block.phase.*?\n    \}\n)(    if block.own_counts.*?\n    \}\n)/$1$3$2/s'
+everywhere "auction boards of three" 's/most: 4/most: 3/'
+everywhere "auction boards of five" 's/most: 4/most: 5/'
+everywhere "common boards of four" 's/most: 12/most: 4/'
+everywhere "auction begins on every board" 's/n > self.most/false/'
+everywhere "common begins refuse 1 above 4" 's/n > self.most/n > 4/'
+everywhere "3 above 4 members" 's/(n > self.most \{\n *return) 1/$1 3/'
+everywhere "3 at a count above the limit" 's/(fn block_words_bad.*?\n)/$1    if n <= 4 \&\& words[5] > 9_999 { return true; }\n/s'
+everywhere "an auction begin counts twice" \
+    "s/(step_begin\\(&mut block.*?\\);)/\$1 if $in_auction { block.own_counts[slot as usize - 1] += 1; }/g" too
+everywhere "an auction begin zeroes the value" "s/(step_begin\\(&mut block.*? )sheet\\)/\$1if $in_auction { \\&[0; 8] } else { sheet })/g"
+everywhere "an auction begin clears the halt number" "s/(step_begin\\(&mut block.*?\\);)/\$1 if $in_auction { block.halt_number = 0; }/g"
+
+# Its opening.
+opens='(pub fn open\(.*?)if !in_range\(n, self.most\)'
+library "an auction opening takes five" board.rs "s/$opens/\$1if !in_range(n, self.most + ($in_auction) as u32)/s"
+library "an auction opening takes any n" board.rs "s/$opens/\$1if !n_is_good(n)/s"
+library "an auction opening refuses four" board.rs "s/$opens/\$1if !in_range(n, self.most - ($in_auction) as u32)/s"
+library "2 before 1 in opening" board.rs 's/(pub fn open\(.*?\n)(.*?return 1;\n *\}\n)(.*?return 2;\n *\}\n)/$1$3$2/s'
+library "2 before 1 in an auction opening alone" board.rs \
+    "s/$opens/\$1if n_is_good(n) \\&\\& table.len() != table_words(n) { return 2; }\\n        if !in_range(n, self.most)/s"
+library "an auction opening tells its kind" board.rs "s/(table\\[0\\] = n;)/\$1 if $in_auction { table[3] = 21; }/"
+library "an auction opening keeps old words" board.rs "s/(pub fn open\\(.*?for i in )0(..table.len)/\$1if $in_auction { 6 } else { 0 }\$2/s"
+
+# The numbers before 4, each out of its place.
+at_table='(pub fn check_table\(self.*?\{\n)'
+at_block='(pub fn check_block\(self.*?\{\n)'
+above='let n = table.first().copied().unwrap_or(0); if n > self.most'
+too_many="$above \\&\\& n_is_good(n)"
+library "1 before the table's 2" board.rs "s/$at_table/\$1 $too_many \\&\\& table.len() != table_words(n) { return 1; }\\n/s"
+library "1 before the table's 3" board.rs "s/$at_table/\$1 $too_many \\&\\& table.len() == table_words(n) { return 1; }\\n/s"
+library "1 before 3 for the table's n" board.rs "s/$at_table/\$1 $above \\&\\& $in_auction \\&\\& !n_is_good(n) { return 1; }\\n/s"
+library "1 for an empty table" board.rs "s/$at_table/\$1 if $in_auction \\&\\& table.is_empty() { return 1; }\\n/s"
+library "the value's 2 before 1" c_sim.rs 's/kind.check_table\(table\)/board::check_table(table)/'
+library "the value's 2 before the table's 3" c_sim.rs \
+    's/(let fault = )(kind.check_table\(table\));/$1if kind == board::AUCTION \&\& value.len() != 8 { 2 } else { $2 };/'
+library "an auction begin takes any length of value" c_sim.rs \
+    's/if (value.len\(\) != 8)/if kind == board::COMMON \&\& $1/; s/sheet.copy.*?;/for i in 0..8.min(value.len()) { sheet[i] = value[i]; }/'
+half "1 above 4 before a half's 2" board.rs \
+    "s/$at_block/\$1 if n > self.most \\&\\& n_is_good(n) \\&\\& words.len() != block_words(n) { return 1; }\\n/s"
+half "1 above 4 before a half's 3" board.rs \
+    "s/$at_block/\$1 if n > self.most \\&\\& n_is_good(n) \\&\\& words.len() == block_words(n) { return 1; }\\n/s"
+half "a half's auction begin on every board" board.rs "s/$at_block.*?\\n/\$1        check_block(words, n, member)\\n/s"
+beside='match value.try_into\(\) \{'
+half "a half's 1 before the value's 2" calls_sim.rs \
+    "s/($beside)/if kind == board::AUCTION \\&\\& !n_is_good(n) { return 1; }\\n        \$1/"
+half "1 above 4 before a half's value" calls_sim.rs \
+    "s/($beside)/if n_is_good(n) \\&\\& kind.check_block(block, n, member) == 1 { return 1; }\\n        \$1/"
+
+# A later number before 1, on a table and in a half.
+good='in_range(member, n) \&\& in_range(slot, n)'
+for later in '4 !in_range(member, n)' '5 in_range(member, n) \&\& !in_range(slot, n)' "6 op_type == 3 \\&\\& $good" \
+    "7 not_allowed(member, slot, op_type) \\&\\& $good" "8 $good \\&\\& block[0] != IDLE" \
+    "9 $good \\&\\& block[4 + slot as usize] >= 9_999"; do
+    read -r number ground <<< "$later"
+    earlier="let fault = match fault { 1 if n_is_good(n) \\&\\& ($ground) => $number, other => other };"
+    block='let n = table[0]; let block = if in_range(member, n) { \&table[block_start(n, member)..] } else { \&*table };'
+    library "$number before 1" c_sim.rs \
+        "s/self, Kind/self, */; s/(let fault = kind.check_table\\(table\\);)/\$1 if fault == 1 { $block $earlier return fault; }/"
+    half "$number before 1 in a half" board.rs \
+        "s/(let fault = self.check_block\\(words, n, member\\);)/\$1 let block = \\&*words; $earlier/"
+done
+
+# The steps that serve both kinds.
+for step in deliver crash; do
+    library "$step refuses 1 above 4" board.rs "s/(pub fn $step\\(.*?let fault = )check_table/\$1AUCTION.check_table/s"
+done
+for step in half_take_reply half_take_outcome half_crash; do
+    half "$step refuses 1 above 4" board.rs "s/(pub fn $step\\(.*?let fault = )check_block/\$1AUCTION.check_block/s"
+done
+for count in '== 9_999' '> 9_999'; do
+    library "nothing is delivered at a count $count" board.rs \
+        "s/(fn deliver_grounds.*?\\n)/\$1    if block.phase == SUBMIT_SENT \\&\\& own_count(block) $count { return 10; }\\n/s"
+done
+
+# The calls themselves; a begin on a table or in a half alone.
+library "an auction opening is the common one" stub_library.rs 's/open\(AUCTION/open(COMMON/'
+library "an opening is the auction's" stub_library.rs 's/open\(COMMON/open(AUCTION/'
+library "an auction begin is the common one" stub_library.rs 's/begin\(AUCTION/begin(COMMON/' too
+library "a begin is the auction's" stub_library.rs 's/begin\(COMMON/begin(AUCTION/'
+library "an auction begin takes the slot for the member" stub_library.rs 's/(begin\(AUCTION, .*?\), )member, slot/$1slot, member/'
+library "an auction begin writes past the table" stub_library.rs 's/(c_sim::begin\(AUCTION)/lent(table, words + 1)[words] = 0;\n    $1/'
+library "an auction begin writes to the value" stub_library.rs \
+    's/(c_sim::begin\(AUCTION)/lent(value as *mut u32, value_words).fill(0);\n    $1/'
+half "a half's auction begin is the common one" stub_calls.rs 's/begin\(AUCTION/begin(COMMON/'
+half "a half's begin is the auction's" stub_calls.rs 's/begin\(COMMON/begin(AUCTION/'
+half "a half's auction begin takes the slot for the member" stub_calls.rs 's/(begin\(AUCTION, .*?\), n, )member, slot/$1slot, member/'
+library "a table's begin with the common limit" board.rs 's/(pub fn begin\(self.*?)self.limit/$1COMMON.limit/s' too
+library "a table's begin with the auction's limit" board.rs 's/(pub fn begin\(self.*?)self.limit/$1AUCTION.limit/s'
+half "a half's begin with the common limit" board.rs 's/(pub fn half_begin\(self.*?)self.limit/$1COMMON.limit/s'
+half "a half's begin with the auction's limit" board.rs 's/(pub fn half_begin\(self.*?)self.limit/$1AUCTION.limit/s'
+
 [ -d "$out/scripts" ] || "$out/gen_scripts" "$out/scripts" 1 100
 program "leading zeros taken" script.rs 's/\(piece.len\(\) > 1 && piece\[0\] == b.0.\)/false/'
 program "0 refused" script.rs 's/piece.len\(\) > 1 && piece/piece.len() > 0 \&\& piece/'
@@ -306,6 +416,33 @@ alone "the book takes any write" reference.rs 's/op_type == WRITE && member != s
 not_own='(op.op_type == WRITE || member != op.slot)'
 alone "own reads are not in the book's history" reference.rs "s/(self.history.push\\(.*?\\);)/if $not_own { \$1 }/s"
 alone "own reads overtake nobody in the book" reference.rs "s/(let between = )(.*?);/\$1$not_own \\&\\& (\$2);/"
+
+# Kinds of board in scripts, which have the common one alone, and in the simulator by itself.
+program "scripts run on auction boards" script.rs 's/COMMON/AUCTION/g'
+program "scripts close at 9,999" board.rs 's/limit: 4_294_967_295/limit: 9_999/'
+for limit in 9_998 10_000 u32::MAX; do
+    alone "alone: auction boards close at $limit" board.rs "s/limit: 9_999/limit: $limit/"
+done
+for most in 3 5 12; do
+    alone "alone: auction boards of $most" board.rs "s/most: 4/most: $most/"
+done
+alone "alone: common boards close at 9,999" board.rs 's/limit: 4_294_967_295/limit: 9_999/'
+alone "alone: 9 at the limit alone" board.rs "s/$nine/\$1 == limit/s"
+alone "alone: 9 before 8" board.rs 's/return 8;/return if block.own_counts[slot as usize - 1] >= limit { 9 } else { 8 };/'
+alone "alone: common begins refuse 1 above 4" board.rs 's/n > self.most/n > 4/'
+alone "alone: 1 before the table's 3" board.rs "s/$at_table/\$1 $too_many { return 1; }\\n/s"
+alone "alone: 1 above 4 before a half's 3" board.rs "s/$at_block/\$1 if n > self.most \\&\\& n_is_good(n) { return 1; }\\n/s"
+alone "alone: the value's 2 before 1" c_sim.rs 's/kind.check_table\(table\)/board::check_table(table)/'
+alone "alone: 2 before 1 in an auction opening" board.rs \
+    "s/$opens/\$1if n_is_good(n) \\&\\& table.len() != table_words(n) { return 2; }\\n        if !in_range(n, self.most)/s"
+alone "alone: an auction opening tells its kind" board.rs "s/(table\\[0\\] = n;)/\$1 if $in_auction { table[3] = 21; }/"
+alone "alone: the book closes one late" reference.rs 's/\*begins >= self.limit/*begins > self.limit/'
+alone "alone: the book closes one early" reference.rs 's/\*begins >= self.limit/*begins + 1 >= self.limit/'
+alone "alone: the book closes at 10,000" reference.rs 's/self.limit \{/if self.limit == 9_999 { 10_000 } else { self.limit } {/'
+alone "alone: the book never closes" reference.rs 's/\*begins >= self.limit/false/'
+alone "alone: the book counts begins on all slots" reference.rs \
+    's/(let begins = .*?;)/let all: u32 = m.begins.iter().sum(); $1/; s/\*begins >= self.limit/all >= self.limit/'
+alone "alone: the book asks 9 before 8" reference.rs 's/(return 8;)/if m.begins[slot as usize - 1] >= self.limit { return 9; } $1/'
 rm -rf "$work" "$shared"
 echo "noticed $noticed, missed $missed"
 [ $missed -eq 0 ]

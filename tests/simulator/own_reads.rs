@@ -31,7 +31,7 @@ fn newest_and_stored(table: &[u32]) -> (Record, Record) {
 
 /// Begins a read of slot 1 and takes so many delivers.
 fn read_so_far(table: &mut Vec<u32>, member: u32, delivers: u32) {
-    assert_eq!(begin(table, member, 1, READ, &[0; 8]), 0);
+    assert_eq!(COMMON.begin(table, member, 1, READ, &[0; 8]), 0);
     for _ in 0..delivers {
         assert_eq!(deliver_ok(table, member), None);
     }
@@ -119,7 +119,7 @@ fn crashed() {
 fn carried() {
     let mut table = new_table(2);
     whole(&mut table, 1, 1, WRITE, 5);
-    begin(&mut table, 1, 1, WRITE, &last_word(6));
+    COMMON.begin(&mut table, 1, 1, WRITE, &last_word(6));
     deliver_ok(&mut table, 1);
     assert_eq!(whole(&mut table, 2, 1, READ, 0), Some(last_word(5)));
     for phase in [COMMIT_SENT, ABORTED_SENT, IDLE] {
@@ -168,7 +168,7 @@ fn member_half() {
     let mut block = block_from_words(&vec![0; block_words(2)], 2);
     block.last_sheet = last_word(5);
     let mut words = block_to_words(&block);
-    let submit = half_begin(&mut words, 2, 1, 1, READ, &last_word(7));
+    let submit = COMMON.half_begin(&mut words, 2, 1, 1, READ, &last_word(7));
     assert_eq!(submit, Ok(Submit { member: 1, slot: 1, op_type: READ, count: 1 }));
     let newest = record(2, READ, 4, 0, [0, 4]);
     let stored = record(1, WRITE, 0, 8, [0, 2]);
@@ -204,7 +204,7 @@ fn host_half() {
 
 /// In the book: an own read is in the history as any other operation.
 fn counted() {
-    let mut book = Book::new(2);
+    let mut book = Book::new(2, COMMON.limit);
     let operations = [(1, WRITE), (1, READ), (2, READ)];
     for (member, op_type) in operations {
         let sheet = last_word(77);

@@ -44,6 +44,14 @@ pub fn any_type(rng: &mut Rng) -> u32 {
     rng.between(1, 2)
 }
 
+/// Own counts at and about the limits of both kinds of board, one of them by
+/// its low half alone.
+pub const COUNTS: [u32; 9] = [0, 9_997, 9_998, 9_999, 10_000, 65_536 + 9_998, 0x8000_0000, u32::MAX - 1, u32::MAX];
+
+pub fn any_kind(rng: &mut Rng) -> Kind {
+    *rng.pick(&KINDS)
+}
+
 /// A type with which number 7 lets a member to a slot: the owner reads as
 /// often as it writes.
 pub fn allowed_type(rng: &mut Rng, member: u32, slot: u32) -> u32 {
@@ -56,7 +64,9 @@ pub fn allowed_type(rng: &mut Rng, member: u32, slot: u32) -> u32 {
 
 /// Another word, often one that is just good or just bad at some place.
 pub fn damaged_word(rng: &mut Rng, old: u32, n: u32) -> u32 {
-    *rng.pick(&[0, 1, 2, 3, n, n + 1, 6, 7, 12, 13, 20, 21, 27, 28, old ^ 1, old.wrapping_add(1), old.wrapping_sub(1), u32::MAX - 1, u32::MAX])
+    let about = [old ^ 1, old.wrapping_add(1), old.wrapping_sub(1)];
+    let edges = [0, 1, 2, 3, n, n + 1, 6, 7, 12, 13, 20, 21, 27, 28, 9_998, 9_999, 10_000, u32::MAX - 1, u32::MAX];
+    *rng.pick(&[&about[..], &edges[..]].concat())
 }
 
 fn small_words(rng: &mut Rng, how_many: usize) -> Vec<u32> {
@@ -73,6 +83,11 @@ fn any_record_head(rng: &mut Rng, n: u32, words: &mut [u32]) {
 /// A member's block of any words that passes number 3.
 pub fn any_block(rng: &mut Rng, n: u32, member: u32) -> Vec<u32> {
     let mut block = small_words(rng, block_words(n));
+    if rng.once_in(2) {
+        for count in &mut block[5..5 + n as usize] {
+            *count = *rng.pick(&COUNTS);
+        }
+    }
     let slot = rng.between(1, n);
     block[0] = rng.between(0, 6);
     block[1] = rng.once_in(5) as u32;

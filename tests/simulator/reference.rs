@@ -1,5 +1,5 @@
-// The book of a run (document 01): fed n and the calls, nothing else.
-// It knows no table, no matrix and no message.
+// The book of a run (document 01): fed n, the limit of the board's kind and the
+// calls, nothing else. It knows no table, no matrix and no message.
 
 pub type Sheet = [u32; 8];
 
@@ -44,6 +44,7 @@ pub struct Member {
 #[derive(Debug)]
 pub struct Book {
     pub n: u32,
+    pub limit: u32, // begins of a member on a slot
     pub sheets: Vec<Sheet>,
     pub members: Vec<Member>,
     pub history: Vec<Line>,
@@ -65,13 +66,14 @@ impl Clone for Member {
 
 impl Clone for Book {
     fn clone(&self) -> Book {
-        let mut copy = Book::new(self.n);
+        let mut copy = Book::new(self.n, self.limit);
         copy.clone_from(self);
         copy
     }
 
     fn clone_from(&mut self, other: &Book) {
         self.n = other.n;
+        self.limit = other.limit;
         self.sheets.clone_from(&other.sheets);
         self.members.clone_from(&other.members);
         self.history.clone_from(&other.history);
@@ -80,10 +82,11 @@ impl Clone for Book {
 }
 
 impl Book {
-    pub fn new(n: u32) -> Book {
+    pub fn new(n: u32, limit: u32) -> Book {
         let member = Member { crashed: false, running: None, begins: vec![0; n as usize] };
         Book {
             n,
+            limit,
             sheets: vec![[0; 8]; n as usize],
             members: vec![member; n as usize],
             history: Vec::new(),
@@ -142,7 +145,7 @@ impl Book {
             return 8;
         }
         let begins = &mut m.begins[slot as usize - 1];
-        if *begins == 4294967295 {
+        if *begins >= self.limit {
             return 9;
         }
         *begins += 1;

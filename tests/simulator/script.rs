@@ -1,6 +1,6 @@
 // The board program (document 01): a script in, answers out.
 
-use crate::board::{begin, crash, deliver, n_is_good, new_table, phase_of, Sheet, READ, WRITE};
+use crate::board::{crash, deliver, n_is_good, new_table, phase_of, Sheet, COMMON, READ, WRITE};
 use std::io::{BufRead, Result, Write};
 
 pub const MOST_STEPS: u64 = 1_000_000;
@@ -99,10 +99,10 @@ pub fn run(input: &mut dyn BufRead, output: &mut dyn Write) -> Result<()> {
         let (answer, member) = match parse(&line) {
             Some(Line::Write { member, value }) => {
                 let sheet = [0, 0, 0, 0, 0, 0, 0, value];
-                (begin(&mut table, member, member, WRITE, &sheet), member)
+                (COMMON.begin(&mut table, member, member, WRITE, &sheet), member)
             }
             Some(Line::Read { member, slot }) => {
-                (begin(&mut table, member, slot, READ, &[0; 8]), member)
+                (COMMON.begin(&mut table, member, slot, READ, &[0; 8]), member)
             }
             Some(Line::Deliver { member }) => {
                 let result = deliver(&mut table, member);

@@ -2,7 +2,12 @@
 // Usage: selftest [SEED] [RUNS PER N]
 #![allow(dead_code)]
 
+mod auction;
 mod board;
+mod c_sim;
+mod calls;
+mod calls_sim;
+mod flat;
 mod message_cases;
 mod messages;
 mod own_reads;
@@ -41,6 +46,7 @@ fn main() {
     outcome_grounds();
     host_grounds();
     own_reads::all();
+    auction::all();
     message_grounds();
     message_round_trips(&mut Rng::new(seed));
     random_runs(seed, runs);
@@ -76,7 +82,7 @@ fn layout() {
         assert_eq!(again, table);
         // Opening reads none of the old words.
         let mut old = vec![0xFFFF_FFFF; table_words(n)];
-        assert_eq!(open(&mut old, n), 0);
+        assert_eq!(COMMON.open(&mut old, n), 0);
         assert_eq!(old, table);
     }
     assert_eq!(table_words(12), 9781);
@@ -158,7 +164,12 @@ fn deliver_ok(table: &mut Vec<u32>, member: u32) -> Option<Sheet> {
 }
 
 fn whole(table: &mut Vec<u32>, member: u32, slot: u32, op_type: u32, value: u32) -> Option<Sheet> {
-    assert_eq!(begin(table, member, slot, op_type, &last_word(value)), 0);
+    whole_on(COMMON, table, member, slot, op_type, value)
+}
+
+/// An operation that is accepted, from its kind's begin on.
+fn whole_on(kind: Kind, table: &mut Vec<u32>, member: u32, slot: u32, op_type: u32, value: u32) -> Option<Sheet> {
+    assert_eq!(kind.begin(table, member, slot, op_type, &last_word(value)), 0);
     for _ in 0..3 {
         assert_eq!(deliver_ok(table, member), None);
     }
@@ -169,15 +180,15 @@ fn whole(table: &mut Vec<u32>, member: u32, slot: u32, op_type: u32, value: u32)
 fn boards_to_prove() {
     // P1
     assert_eq!(new_table(1).len(), 79);
-    assert_eq!(open(&mut vec![0; 79], 1), 0);
-    assert_eq!(open(&mut vec![0; 79], 0), 1);
-    assert_eq!(open(&mut vec![0; 79], 13), 1);
-    assert_eq!(open(&mut vec![0; 78], 1), 2);
+    assert_eq!(COMMON.open(&mut vec![0; 79], 1), 0);
+    assert_eq!(COMMON.open(&mut vec![0; 79], 0), 1);
+    assert_eq!(COMMON.open(&mut vec![0; 79], 13), 1);
+    assert_eq!(COMMON.open(&mut vec![0; 78], 1), 2);
     // P2 and P3
     let mut table = new_table(2);
     whole(&mut table, 1, 1, WRITE, 77);
     assert_eq!(entry_of(&table, 1).newest.matrix, vec![vec![1, 0], vec![0, 0]]);
-    begin(&mut table, 2, 1, READ, &[0; 8]);
+    COMMON.begin(&mut table, 2, 1, READ, &[0; 8]);
     for _ in 0..3 {
         deliver_ok(&mut table, 2);
     }
@@ -186,12 +197,12 @@ fn boards_to_prove() {
     assert_eq!(deliver_ok(&mut table, 2), Some(last_word(77)));
     // P4 and P5
     let mut table = new_table(2);
-    assert_eq!(begin(&mut table, 1, 1, READ, &[0; 8]), 0);
-    assert_eq!(begin(&mut table, 1, 2, READ, &[0; 8]), 8);
+    assert_eq!(COMMON.begin(&mut table, 1, 1, READ, &[0; 8]), 0);
+    assert_eq!(COMMON.begin(&mut table, 1, 2, READ, &[0; 8]), 8);
     // P6: first messages taken: each has had its reply.
     let mut table = new_table(3);
-    begin(&mut table, 1, 3, READ, &[0; 8]);
-    begin(&mut table, 2, 3, READ, &[0; 8]);
+    COMMON.begin(&mut table, 1, 3, READ, &[0; 8]);
+    COMMON.begin(&mut table, 2, 3, READ, &[0; 8]);
     deliver_ok(&mut table, 1);
     deliver_ok(&mut table, 2);
     deliver_ok(&mut table, 1);
@@ -218,11 +229,11 @@ fn boards_to_prove() {
     put_block(&mut table, 1, &block);
     whole(&mut table, 1, 1, WRITE, 1);
     assert_eq!(block_of(&table, 1).own_counts[0], u32::MAX);
-    assert_eq!(begin(&mut table, 1, 1, WRITE, &last_word(2)), 9);
-    assert_eq!(begin(&mut table, 1, 2, READ, &[0; 8]), 0);
+    assert_eq!(COMMON.begin(&mut table, 1, 1, WRITE, &last_word(2)), 9);
+    assert_eq!(COMMON.begin(&mut table, 1, 2, READ, &[0; 8]), 0);
     // P10
     let mut table = new_table(2);
-    begin(&mut table, 1, 1, WRITE, &last_word(9));
+    COMMON.begin(&mut table, 1, 1, WRITE, &last_word(9));
     deliver_ok(&mut table, 1);
     deliver_ok(&mut table, 1);
     assert_eq!(phase_of(&table, 1), COMMIT_SENT);
@@ -238,7 +249,7 @@ fn boards_to_prove() {
     let mut entry = entry_of(&table, 2);
     entry.newest.matrix[1] = vec![0, 1];
     put_entry(&mut table, 2, &entry);
-    begin(&mut table, 1, 2, READ, &[0; 8]);
+    COMMON.begin(&mut table, 1, 2, READ, &[0; 8]);
     let mut half = block_to_words(&block_of(&table, 1));
     deliver_ok(&mut table, 1);
     deliver_ok(&mut table, 1);
@@ -251,7 +262,7 @@ fn boards_to_prove() {
     assert_eq!(block_from_words(&half, 2), halted);
     assert_eq!(deliver(&mut table, 1).number, 10);
     assert_eq!(crash(&mut table, 1), 11);
-    assert_eq!(begin(&mut table, 1, 1, WRITE, &[0; 8]), 8);
+    assert_eq!(COMMON.begin(&mut table, 1, 1, WRITE, &[0; 8]), 8);
     // P12
     for (n, commit, reply) in [(2, 60, 115), (12, 620, 1235)] {
         let mut out = vec![0; 2000];
@@ -280,25 +291,25 @@ fn grounds_in_order() {
     // Begin: 3 before 4 before 5 and so on.
     let mut table = new_table(2);
     table[1] = 7;
-    assert_eq!(begin(&mut table, 9, 9, 9, &[0; 8]), 3);
+    assert_eq!(COMMON.begin(&mut table, 9, 9, 9, &[0; 8]), 3);
     let mut table = new_table(2);
     let mut block = block_of(&table, 1);
     block.own_counts = vec![u32::MAX; 2];
     block.crash_mark = 1;
     put_block(&mut table, 1, &block);
-    assert_eq!(begin(&mut table, 0, 0, 0, &[0; 8]), 4);
-    assert_eq!(begin(&mut table, 3, 0, 0, &[0; 8]), 4);
-    assert_eq!(begin(&mut table, 1, 0, 0, &[0; 8]), 5);
-    assert_eq!(begin(&mut table, 1, 3, 0, &[0; 8]), 5);
-    assert_eq!(begin(&mut table, 1, 1, 0, &[0; 8]), 6);
-    assert_eq!(begin(&mut table, 1, 1, 3, &[0; 8]), 6);
-    assert_eq!(begin(&mut table, 1, 2, WRITE, &[0; 8]), 7);
-    assert_eq!(begin(&mut table, 1, 1, WRITE, &[0; 8]), 8);
-    assert_eq!(begin(&mut table, 1, 1, READ, &[0; 8]), 8);
+    assert_eq!(COMMON.begin(&mut table, 0, 0, 0, &[0; 8]), 4);
+    assert_eq!(COMMON.begin(&mut table, 3, 0, 0, &[0; 8]), 4);
+    assert_eq!(COMMON.begin(&mut table, 1, 0, 0, &[0; 8]), 5);
+    assert_eq!(COMMON.begin(&mut table, 1, 3, 0, &[0; 8]), 5);
+    assert_eq!(COMMON.begin(&mut table, 1, 1, 0, &[0; 8]), 6);
+    assert_eq!(COMMON.begin(&mut table, 1, 1, 3, &[0; 8]), 6);
+    assert_eq!(COMMON.begin(&mut table, 1, 2, WRITE, &[0; 8]), 7);
+    assert_eq!(COMMON.begin(&mut table, 1, 1, WRITE, &[0; 8]), 8);
+    assert_eq!(COMMON.begin(&mut table, 1, 1, READ, &[0; 8]), 8);
     block.crash_mark = 0;
     put_block(&mut table, 1, &block);
-    assert_eq!(begin(&mut table, 1, 1, WRITE, &[0; 8]), 9);
-    assert_eq!(begin(&mut table, 1, 1, READ, &[0; 8]), 9);
+    assert_eq!(COMMON.begin(&mut table, 1, 1, WRITE, &[0; 8]), 9);
+    assert_eq!(COMMON.begin(&mut table, 1, 1, READ, &[0; 8]), 9);
     // Words that make 3, one by one, and words that do not.
     let n = 2;
     let first = block_start(n, 1);
@@ -683,6 +694,7 @@ struct Tally {
     aborted: u64,
     crashes: u64,
     returned: u64,
+    spent: u64, // answers 9 on boards that had begun operations
     answers: [u64; 12],
 }
 
@@ -716,10 +728,10 @@ fn random_call(rng: &mut Rng, n: u32, style: &Style, table: &[u32]) -> Call {
     Call::Deliver { member }
 }
 
-fn call_board(table: &mut Vec<u32>, call: &Call) -> Answer {
+fn call_board(kind: Kind, table: &mut Vec<u32>, call: &Call) -> Answer {
     match call {
         Call::Begin { member, slot, op_type, sheet } => {
-            Answer { number: begin(table, *member, *slot, *op_type, sheet), returned: None }
+            Answer { number: kind.begin(table, *member, *slot, *op_type, sheet), returned: None }
         }
         Call::Deliver { member } => deliver(table, *member),
         Call::Crash { member } => Answer { number: crash(table, *member), returned: None },
@@ -734,6 +746,7 @@ fn through_bytes(message: Message, n: u32) -> Message {
 
 /// The two halves apart, with messages as bytes between them.
 struct Apart {
+    kind: Kind,
     n: u32,
     blocks: Vec<Vec<u32>>,
     entries: Vec<u32>,
@@ -742,8 +755,9 @@ struct Apart {
 }
 
 impl Apart {
-    fn new(n: u32) -> Apart {
+    fn new(kind: Kind, n: u32) -> Apart {
         Apart {
+            kind,
             n,
             blocks: vec![vec![0; block_words(n)]; n as usize],
             entries: new_table(n)[entries_start(n)..].to_vec(),
@@ -758,7 +772,7 @@ impl Apart {
         match call {
             Call::Begin { member, slot, op_type, sheet } => {
                 let m = *member as usize - 1;
-                let submit = half_begin(&mut self.blocks[m], n, *member, *slot, *op_type, sheet).unwrap();
+                let submit = self.kind.half_begin(&mut self.blocks[m], n, *member, *slot, *op_type, sheet).unwrap();
                 self.to_host[m] = Some(through_bytes(Message::Submit(submit), n));
                 None
             }
@@ -845,6 +859,7 @@ impl Serial {
 
 /// One run: the board, the book, the halves apart, and the serial history.
 struct Run<'a> {
+    kind: Kind,
     n: u32,
     table: Vec<u32>,
     book: Book,
@@ -854,12 +869,22 @@ struct Run<'a> {
 }
 
 impl Run<'_> {
-    fn call(&mut self, call: &Call) {
+    /// From the kind's own opening.
+    fn new(kind: Kind, n: u32, tally: &mut Tally) -> Run<'_> {
+        let mut table = vec![7; table_words(n)];
+        assert_eq!(kind.open(&mut table, n), 0);
+        let (book, apart, serial) = (Book::new(n, kind.limit), Apart::new(kind, n), Serial::new(n));
+        Run { kind, n, table, book, apart, serial, tally }
+    }
+
+    /// The number, which all agree on.
+    fn call(&mut self, call: &Call) -> u32 {
         let before = self.table.clone();
-        let answer = call_board(&mut self.table, call);
+        let answer = call_board(self.kind, &mut self.table, call);
         let (number, returned) = self.book.call(call);
         self.tally.calls += 1;
         self.tally.answers[number as usize] += 1;
+        self.tally.spent += (number == 9 && self.kind.limit > 0) as u64;
         assert_eq!((answer.number, answer.returned), (number, returned), "{:?}", call);
         for member in 1..=self.n {
             assert_eq!(phase_of(&self.table, member), self.book.phase(member), "{:?}", call);
@@ -868,7 +893,8 @@ impl Run<'_> {
         assert_eq!(check_table(&self.table), 0);
         if number != 0 {
             assert_eq!(self.table, before);
-            return;
+            self.refused_apart(call, number);
+            return number;
         }
         assert_eq!(self.apart.follow(call), returned);
         assert_eq!(self.apart.entries[..], self.table[entries_start(self.n)..]);
@@ -881,6 +907,17 @@ impl Run<'_> {
             }
             Call::Begin { member, .. } => self.same_block_apart(*member),
             Call::Deliver { member } => self.delivered(*member, &before, returned),
+        }
+        number
+    }
+
+    /// A member's own half refuses a begin by the same number.
+    fn refused_apart(&mut self, call: &Call, number: u32) {
+        if let Call::Begin { member, slot, op_type, sheet } = call {
+            if in_range(*member, self.n) {
+                let block = &mut self.apart.blocks[*member as usize - 1];
+                assert_eq!(self.kind.half_begin(block, self.n, *member, *slot, *op_type, sheet), Err(number));
+            }
         }
     }
 
@@ -928,14 +965,21 @@ impl Run<'_> {
     }
 }
 
-fn random_run(rng: &mut Rng, n: u32, style: &Style, tally: &mut Tally) {
-    let (table, book, apart, serial) = (new_table(n), Book::new(n), Apart::new(n), Serial::new(n));
-    let mut run = Run { n, table, book, apart, serial, tally };
+fn random_run(rng: &mut Rng, kind: Kind, n: u32, style: &Style, tally: &mut Tally) {
+    let mut run = Run::new(kind, n, tally);
     for _ in 0..style.steps {
         let call = random_call(rng, n, style, &run.table);
         run.call(&call);
     }
     run.replay();
+}
+
+/// Auction boards, and boards with a limit that is soon reached: it is left open.
+fn other_kinds(n: u32) -> Vec<Kind> {
+    let mut kinds: Vec<Kind> = (0..=3).map(|limit| Kind { most: n, limit }).collect();
+    kinds.push(AUCTION);
+    kinds.retain(|kind| n <= kind.most);
+    kinds
 }
 
 fn random_runs(seed: u64, runs: u32) {
@@ -944,12 +988,16 @@ fn random_runs(seed: u64, runs: u32) {
         let mut rng = Rng::new(seed.wrapping_mul(1000).wrapping_add(n as u64));
         for run in 0..runs {
             let style = Style {
-                slots: *rng.pick(&[1, n, n, n / 2 + 1]),
+                // The long ones go to all slots, so that own reads come up.
+                slots: if run % 10 == 0 { n } else { *rng.pick(&[1, n, n, n / 2 + 1]) },
                 crash_once_in: *rng.pick(&[60, 300, 1_000_000]),
                 bad_once_in: *rng.pick(&[10, 100]),
                 steps: if run % 10 == 0 { 3000 } else { 400 },
             };
-            random_run(&mut rng, n, &style, &mut tally);
+            random_run(&mut rng, COMMON, n, &style, &mut tally);
+            for kind in other_kinds(n) {
+                random_run(&mut rng, kind, n, &Style { steps: 200, ..style }, &mut tally);
+            }
         }
         println!(
             "ok runs n {}: calls {} accepted {} (own reads {}) aborted {} crashes {} returned {} by answer {:?}",
@@ -957,6 +1005,7 @@ fn random_runs(seed: u64, runs: u32) {
         );
         assert!(tally.accepted > 0 && tally.crashes > 0 && tally.returned > 0 && tally.own_reads > 0);
         assert!(n == 1 || tally.aborted > 0);
+        assert!(tally.spent > 0);
     }
 }
 
@@ -971,13 +1020,14 @@ fn strange_tables(rng: &mut Rng) {
         let n = rng.between(1, 5);
         let style = Style { slots: n, crash_once_in: 100, bad_once_in: 50, steps: 0 };
         let mut table = new_table(n);
+        let kind = *rng.pick(&KINDS);
         for _ in 0..rng.between(0, 40) {
             let call = random_call(rng, n, &style, &table);
-            call_board(&mut table, &call);
+            call_board(COMMON, &mut table, &call);
         }
         for _ in 0..rng.between(1, 6) {
             let place = rng.below(table.len() as u64) as usize;
-            table[place] = *rng.pick(&[0, 1, 2, n, n + 1, 7, 22, u32::MAX - 1, u32::MAX]);
+            table[place] = *rng.pick(&[0, 1, 2, n, n + 1, 7, 22, 9_998, 9_999, u32::MAX - 1, u32::MAX]);
         }
         for _ in 0..4 {
             let before = table.clone();
@@ -986,7 +1036,7 @@ fn strange_tables(rng: &mut Rng) {
             } else {
                 Call::Deliver { member: 1 }
             };
-            let answer = call_board(&mut table, &call);
+            let answer = call_board(kind, &mut table, &call);
             if answer.number != 0 {
                 assert_eq!(table, before);
                 refused += 1;

@@ -1,6 +1,7 @@
 // The calls on the halves with their C interface, on the simulator: a part of
 // the stub library, to build and try halves.rs.
 
+use crate::board::{AUCTION, COMMON};
 use crate::calls::Calls;
 use crate::calls_sim::Simulator;
 use crate::{given, lent};
@@ -16,8 +17,17 @@ pub unsafe extern "C" fn concur_call_write(fields: *const u32, fields_words: usi
 }
 
 #[no_mangle]
-pub unsafe extern "C" fn concur_call_member_begin(block: *mut u32, words: usize, n: u32, member: u32, slot: u32, op_type: u32, value: *const u32, value_words: usize) -> u32 {
-    Simulator::begin(lent(block, words), n, member, slot, op_type, given(value, value_words))
+pub unsafe extern "C" fn concur_call_member_begin(
+    block: *mut u32, words: usize, n: u32, member: u32, slot: u32, op_type: u32, value: *const u32, value_words: usize,
+) -> u32 {
+    Simulator::begin(COMMON, lent(block, words), n, member, slot, op_type, given(value, value_words))
+}
+
+#[no_mangle]
+pub unsafe extern "C" fn concur_call_member_auction_begin(
+    block: *mut u32, words: usize, n: u32, member: u32, slot: u32, op_type: u32, value: *const u32, value_words: usize,
+) -> u32 {
+    Simulator::begin(AUCTION, lent(block, words), n, member, slot, op_type, given(value, value_words))
 }
 
 #[no_mangle]

@@ -10,6 +10,8 @@ mod flat;
 mod messages;
 mod stub_calls;
 
+use board::{AUCTION, COMMON};
+
 unsafe fn lent<'a, T>(start: *mut T, how_many: usize) -> &'a mut [T] {
     std::slice::from_raw_parts_mut(start, how_many)
 }
@@ -25,12 +27,26 @@ pub extern "C" fn concur_board_words(n: u32) -> u32 {
 
 #[no_mangle]
 pub unsafe extern "C" fn concur_board_open(table: *mut u32, words: usize, n: u32) -> u32 {
-    c_sim::open(lent(table, words), n)
+    c_sim::open(COMMON, lent(table, words), n)
 }
 
 #[no_mangle]
-pub unsafe extern "C" fn concur_board_begin(table: *mut u32, words: usize, member: u32, slot: u32, op_type: u32, value: *const u32, value_words: usize) -> u32 {
-    c_sim::begin(lent(table, words), member, slot, op_type, given(value, value_words))
+pub unsafe extern "C" fn concur_auction_open(table: *mut u32, words: usize, n: u32) -> u32 {
+    c_sim::open(AUCTION, lent(table, words), n)
+}
+
+#[no_mangle]
+pub unsafe extern "C" fn concur_board_begin(
+    table: *mut u32, words: usize, member: u32, slot: u32, op_type: u32, value: *const u32, value_words: usize,
+) -> u32 {
+    c_sim::begin(COMMON, lent(table, words), member, slot, op_type, given(value, value_words))
+}
+
+#[no_mangle]
+pub unsafe extern "C" fn concur_auction_begin(
+    table: *mut u32, words: usize, member: u32, slot: u32, op_type: u32, value: *const u32, value_words: usize,
+) -> u32 {
+    c_sim::begin(AUCTION, lent(table, words), member, slot, op_type, given(value, value_words))
 }
 
 #[no_mangle]

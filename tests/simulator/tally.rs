@@ -1,13 +1,14 @@
 // How often each answer and each halt of the calls on the halves came up, and
 // with how many pairs.
 
-use crate::board::{ABORTED, ACCEPTED, HALTED, READ};
-use crate::calls::{Call, Lent, NAMES};
+use crate::begin_cases::{ground_at, Grounds, AT_THE_LIMIT};
+use crate::board::{n_is_good, ABORTED, ACCEPTED, AUCTION, HALTED, READ};
+use crate::calls::{Call, Lent, CALLS, NAMES};
 use std::collections::BTreeMap;
 
 /// The answers of each call that can occur, as in NAMES: on anything that is
 /// handed in, and in walks, where n and the lengths are right.
-const ANYWHERE: [&[usize]; 8] = [
+const ANYWHERE: [&[usize]; CALLS] = [
     &[0, 1, 2, 12, 13, 14, 15],
     &[0, 1, 2, 15, 16],
     &[0, 1, 2, 3, 4, 5, 6, 7, 8, 9],
@@ -16,11 +17,18 @@ const ANYWHERE: [&[usize]; 8] = [
     &[0, 1, 2, 3, 4, 11],
     &[0, 1, 2, 3, 4, 5, 6, 7],
     &[0, 1, 2, 3, 4, 5, 6, 7],
+    &[0, 1, 2, 3, 4, 5, 6, 7, 8, 9],
 ];
-const IN_WALKS: [&[usize]; 8] = [&[0, 12, 13, 14, 15], &[0], &[0, 8, 9], &[0, 10, 15], &[0, 10], &[0, 11], &[0], &[0]];
+const IN_WALKS: [&[usize]; CALLS] =
+    [&[0, 12, 13, 14, 15], &[0], &[0, 8, 9], &[0, 10, 15], &[0, 10], &[0, 11], &[0], &[0], &[0, 8, 9]];
 
-/// The calls that belong to an operation: begin, reply, outcome, submit, commit.
-const OF_OPERATIONS: [usize; 5] = [2, 3, 4, 6, 7];
+/// The grounds of an auction begin beside those at the limit, and in walks.
+const AUCTION_BEGINS: [&str; 7] =
+    ["1 of any board", "1 above 4", "2 of the value", "2 of the block", "2 of a block above 4", "3", "3 above 4"];
+const IN_AUCTION_WALKS: [&str; 4] = ["0 below 9,998", "0 at 9,998", "9 at 9,999", "9 at 10,000"];
+
+/// The calls that belong to an operation: begin, reply, outcome, submit, commit, auction begin.
+const OF_OPERATIONS: [usize; 6] = [2, 3, 4, 6, 7, 8];
 
 /// How a reply that was taken ended: its halt, or 0 where it passed.
 const ENDS: [u32; 8] = [0, 21, 22, 23, 24, 25, 26, 27];
@@ -42,11 +50,28 @@ fn numbers_of_pairs(end: u32, n: u32) -> usize {
 pub struct Tally {
     calls: u64,
     compared: u64,
-    answers: [[u64; 17]; 8],
+    answers: [[u64; 17]; CALLS],
+    auction_begins: Grounds,
     replies: BTreeMap<(u32, u32, u32), u64>, // by end, n and pairs
     outcomes: [u64; 3],
     values: u64,
-    own_reads: [u64; 8], // answered 0, as in NAMES
+    own_reads: [u64; CALLS], // answered 0, as in NAMES
+}
+
+/// The ground of an answer of an auction begin. "Above 4" with 2 and 3 are
+/// those that the later 1 would answer if it came first.
+fn auction_ground(answer: u32, n: u32, slot: u32, before: &Lent) -> &'static str {
+    match answer {
+        1 if n_is_good(n) => "1 above 4",
+        1 => "1 of any board",
+        2 if before.given.len() != 8 => "2 of the value",
+        2 if n > 4 => "2 of a block above 4",
+        2 => "2 of the block",
+        3 if n > 4 => "3 above 4",
+        3 => "3",
+        0 | 9 => ground_at(answer, before.words[4 + slot as usize]),
+        _ => ground_at(answer, 0),
+    }
 }
 
 /// Is it a call of a member's read of its own slot? Asked where it is answered 0.
@@ -65,6 +90,9 @@ impl Tally {
         self.calls += 1;
         self.compared += (after.words.len() + after.bytes.len() + after.given.len() + after.results.len()) as u64;
         self.answers[call.place()][answer as usize] += 1;
+        if let Call::Begin { kind: AUCTION, n, slot, .. } = *call {
+            self.auction_begins.count(auction_ground(answer, n, slot, before));
+        }
         if answer != 0 {
             return;
         }
@@ -107,7 +135,7 @@ impl Tally {
     fn report_own_reads(&self) -> Vec<String> {
         let mut missing = Vec::new();
         for place in OF_OPERATIONS {
-            println!("own reads, {:7} {:6} times", NAMES[place], self.own_reads[place]);
+            println!("own reads, {:13} {:6} times", NAMES[place], self.own_reads[place]);
             if self.own_reads[place] == 0 {
                 missing.push(format!("{} of an own read", NAMES[place]));
             }
@@ -130,15 +158,16 @@ impl Tally {
     }
 
     /// Prints the counts; gives the names of what can occur and never did.
-    fn report(&self, can_occur: &[&[usize]; 8]) -> Vec<String> {
+    fn report(&self, can_occur: &[&[usize]; CALLS], grounds: &[&str]) -> Vec<String> {
         println!("calls {} words and bytes compared {}", self.calls, self.compared);
         for (name, counts) in NAMES.iter().zip(&self.answers) {
-            println!("{:7} by answer 0 to 16 {:?}", name, counts);
+            println!("{:13} by answer 0 to 16 {:?}", name, counts);
         }
         let (accepted, aborted) = (self.outcomes[ACCEPTED as usize], self.outcomes[ABORTED as usize]);
         println!("commits accepted {} aborted {} values returned {}", accepted, aborted, self.values);
         let mut missing = self.report_replies();
         missing.extend(self.report_own_reads());
+        missing.extend(self.auction_begins.missing(NAMES[8], grounds));
         for (place, numbers) in can_occur.iter().enumerate() {
             let never = numbers.iter().filter(|number| self.answers[place][**number] == 0);
             missing.extend(never.map(|number| format!("{} {}", NAMES[place], number)));
@@ -155,10 +184,10 @@ impl Tally {
 /// Prints both; ends with 1 where something that can occur never came up.
 pub fn report(cases: &Tally, walks: &Tally) {
     println!("cases:");
-    let mut in_cases = cases.report(&ANYWHERE);
+    let mut in_cases = cases.report(&ANYWHERE, &[&AUCTION_BEGINS[..], &AT_THE_LIMIT[..]].concat());
     in_cases.extend(cases.missing_pairs());
     println!("walks:");
-    let in_walks = walks.report(&IN_WALKS);
+    let in_walks = walks.report(&IN_WALKS, &IN_AUCTION_WALKS);
     if !in_cases.is_empty() || !in_walks.is_empty() {
         println!("NEVER CAME UP in cases: {}; in walks: {}", in_cases.join(", "), in_walks.join(", "));
         std::process::exit(1);

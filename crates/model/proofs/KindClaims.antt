@@ -63,8 +63,8 @@ begin-on-lent : (kind : Kind) (n own rest : ℕ) → BeginOnLent (kind .most) n 
 unfolding kindNumber
 begin-on-lent kind n own rest = record {
   first = λ h. rw (ne-eqb own 0 h);
-  one = λ z h. rw (z, lt-leb n (kind .most) h);
-  others = λ z h. rw (z, le-leb n (kind .most) h);
+  one = λ z h. simp (z, lt-leb n (kind .most) h);
+  others = λ z h. simp (z, le-leb n (kind .most) h);
 }
 
 -- a begin's whole chain, behind whatever number is asked first
@@ -95,22 +95,22 @@ begin-on-block kind n i l r t =
 
 -- What the auction's opening and begin take, the common ones take too.
 
-four-of-twelve : (n : ℕ) → OneTo 4 n → OneTo 12 n
-four-of-twelve n h = omega arith
+few-of-twelve : (n : ℕ) → OneTo (auction .most) n → OneTo (concur .most) n
+few-of-twelve n h = omega arith
 
 open-alike : (n : ℕ) (l : List ℕ) → openNumber auction n l ≡ 0 → (openNumber concur n l ≡ 0) × (openWords auction n l ≡ openWords concur n l)
 unfolding openWords
 open-alike n l h =
     let k = open-numbers auction n l .done .0 h in
-    let z = open-numbers concur n l .done .1 (four-of-twelve n (k .0), k .1) in
+    let z = open-numbers concur n l .done .1 (few-of-twelve n (k .0), k .1) in
     (z, rw (h, z))
 
 -- the numbers before 4, where the last of them is the kind's
 sized-alike : (n : ℕ) → kindNumber auction n ≡ 0 → kindNumber concur n ≡ 0
 unfolding kindNumber
 sized-alike n h =
-    let few = leb-true n 4 (no-failure (leb n 4) (omega arith) h .0) in
-    rw (le-leb n 12 (omega arith))
+    let few = leb-true n (auction .most) (no-failure (leb n (auction .most)) (omega arith) h .0) in
+    rw (le-leb n (concur .most) (omega arith))
 
 begun-alike : (n phase crashed count i r t : ℕ) → beginAnswer auction n phase crashed count i r t ≡ 0
     → beginAnswer concur n phase crashed count i r t ≡ 0

@@ -2,8 +2,10 @@
 -- value's length, or `begin_on` with the value that is read.
 use borrow.Author.Needs.{needs}
 use native.Mathlib.Omega.{arith}
-use mathlib.Core.Path.{_∙_}
+use mathlib.Core.Path.{_≡_, _∙_}
+use lib.ListN.{length}
 use Rattle.lists.specs.Parts.{words}
+use Rattle.model.specs.Table.{valueSize}
 use Rattle.board.specs.Needs.{Sound}
 use Rattle.board.proofs.Answers.{of-begin, some-words}
 use Rattle.board.proofs.Beside.{done-beside, from-start, long-beside, own-beside, same-value}
@@ -16,6 +18,13 @@ start c = c .before .before .before .before
 sound : (c : tie.Else1) → let l = start (c .before) .args .table .now in Sound (words l 0) l
 sound c = c .before .begin-number .ensures .1 (c .if1 .left)
 
+-- the value has not 8 words; and it has
+misfit : (c : tie.Then2) → let a = start (c .before .before) .args in (length (a .value .now) ≡ valueSize → ⊥)
+misfit c e = omega (arith, c .if2 .taken, e)
+
+fits : (c : tie.Else2) → let a = start (c .before .before) .args in length (a .value .now) ≡ valueSize
+fits c = omega (arith, c .if2 .left)
+
 abbrev fit : tie.After-begin-on-arg → tie.Else2
 fit c = c .before .before
 
@@ -25,13 +34,13 @@ returns c kind limit most = own-beside kind _ _ _ _ (of-begin kind _ _ _ _ _ (c 
 returns-2 : tie.Need-returns-2
 returns-2 c kind limit most =
     let left = c .before in
-    long-beside kind _ _ _ _ (of-begin kind _ _ _ _ _ (left .before .begin-number .ensures .0 kind most)) (left .if1 .left) (c .if2 .taken)
+    long-beside kind _ _ _ _ (of-begin kind _ _ _ _ _ (left .before .begin-number .ensures .0 kind most)) (left .if1 .left) (misfit c)
 
 slice-read-n : tie.Need-slice-read-n
 slice-read-n c = some-words (sound (c .before .before))
 
 load-value-requires : tie.Need-load-value-requires
-load-value-requires c κs = omega (arith, fit c .if2 .left)
+load-value-requires c κs = omega (arith, fits (fit c))
 
 begin-on-requires : tie.Need-begin-on-requires
 begin-on-requires c κs = sound (fit (c .before) .before) .table
@@ -42,7 +51,7 @@ returns-3 c kind limit most =
     let left = fit (does .before .before) in
     let passed = left .before in
     let value = does .before .load-value .ensures ∙ from-start (words (start (passed .before) .args .value .now)) in
-    done-beside kind _ _ _ _ (of-begin kind _ _ _ _ _ (passed .before .begin-number .ensures .0 kind most)) (passed .if1 .left) (left .if2 .left)
+    done-beside kind _ _ _ _ (of-begin kind _ _ _ _ _ (passed .before .begin-number .ensures .0 kind most)) (passed .if1 .left) (fits left)
     (same-value value (does .begin-on .ensures kind limit))
 
 pub begin-beside-spec : {M : Type 1} → statement M
