@@ -137,7 +137,14 @@ gateway 'begin refused: 4'                    1 2 3 1 77
 gateway 'begin refused: 4'                    1 2 1 0 77
 gateway 'member 1 read slot 1: 77'            0 1 1 1 77
 gateway 'member 3 read slot 3: 5'             0 4 3 3 5
-gateway 'usage: gateway N WRITER READER VALUE' 2 2 1 2
+gateway 'member 1 read slot 4: 9'             0 auction 4 4 1 9
+gateway 'member 1 read slot 1: 77'            0 auction 1 1 1 77
+gateway 'member 5 read slot 4: 9'             0 5 4 5 9
+gateway 'open refused: 1'                     1 auction 5 4 5 9
+gateway 'open refused: 1'                     1 auction 0 1 1 9
+gateway 'begin refused: 4'                    1 auction 4 5 1 9
+gateway 'usage: gateway [auction] N WRITER READER VALUE' 2 2 1 2
+gateway 'usage: gateway [auction] N WRITER READER VALUE' 2 auction 2 1 2
 
 echo "C examples: $tried cases, $wrong wrong"
 [ "$wrong" -eq 0 ]
