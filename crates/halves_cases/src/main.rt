@@ -13,34 +13,27 @@ fn line(a: u32, b: u32, c: u32) {
     io::write_all(1, b"\n");
 }
 
-// Member 1's write takes an opening reply, and then that it is aborted. Each line: the answer, the phase, the own count.
-fn aborted(begun: [u32; 61]) -> [u32; 61] {
-    let mut block = begun;
-    let replied = member::take_reply(&mut block, 2, 1, Record::opening(1), Record::opening(1), 3);
-    line(replied.number, block[0], block[5]);
-    let ended = member::take_outcome(&mut block, 2, 1, 2);
-    line(ended.number, block[0], block[5]);
-    block
-}
-
 // P9: own count 4,294,967,294 begins; once idle again, 9. Each line: the answer, the phase, the own count.
 fn p9() {
     let mut block = [0u32; 61];
     block[5] = 4294967294;
     let begun = member::begin(&mut block, 2, 1, 1, 2, [0; 8]);
     line(begun, block[0], block[5]);
-    block = aborted(block);
+    let replied = member::take_reply(&mut block, 2, 1, Record::opening(1), Record::opening(1), 3);
+    line(replied.number, block[0], block[5]);
+    let ended = member::take_outcome(&mut block, 2, 1, 2);
+    line(ended.number, block[0], block[5]);
     let again = member::begin(&mut block, 2, 1, 1, 2, [0; 8]);
     line(again, block[0], block[5]);
 }
 
-// The same at the limit of an auction board, and above it; the common begin goes on.
+// An auction board's limit: own count 9,998 begins; idle again, 9, and so above it. The common begin goes on.
 fn auction_limit() {
     let mut block = [0u32; 61];
     block[5] = 9998;
     let begun = member::auction::begin(&mut block, 2, 1, 1, 2, [0; 8]);
     line(begun, block[0], block[5]);
-    block = aborted(block);
+    block[0] = 0;
     let again = member::auction::begin(&mut block, 2, 1, 1, 2, [0; 8]);
     line(again, block[0], block[5]);
     block[5] = 10000;

@@ -1,17 +1,16 @@
 -- The two kinds of board are as requested: an opening's numbers by the table of its grounds, a begin's ground by ground. A kind is looked at
 -- by nothing but these, so that a call which both kinds take does the same on both.
-use Prim.Native.Nat.{ℕ, _≤_, _<_}
+use Prim.Native.Nat.{ℕ}
 use mathlib.Core.Path.{_≡_, refl, sym, _∙_}
-use mathlib.Core.Bool.{true, false, cond, not}
 use mathlib.Core.List.{List, [], _∷_}
-use mathlib.Core.Logic.{_⊎_, inl, inr}
+use mathlib.Core.Logic.{inl, inr}
 use native.Mathlib.Omega.{arith}
 use lib.Dec.{eqb, leb}
 use lib.ListN.{length}
 use borrow.Author.Tests.{eqb-true, eqb-false, eq-eqb, ne-eqb, leb-true, le-leb, lt-leb}
 use Rattle.lists.specs.Functions.{inside}
 use Rattle.lists.specs.Parts.{words}
-use Rattle.lists.proofs.Functions.{_and_, on, inside-low, inside-high}
+use Rattle.lists.proofs.Functions.{_and_, on}
 use Rattle.lists.proofs.Refusals.{no-number, no-failure, grouped}
 use Rattle.model.specs.Records.{Value}
 use Rattle.model.specs.Kinds.{Kind, concur, auction}

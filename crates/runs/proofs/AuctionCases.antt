@@ -1,6 +1,5 @@
 -- The cases of auction boards on words: each answer of a table or a block is computed, and the runs from an opening are those of the board.
 use mathlib.Core.Path.{_≡_, refl}
-use mathlib.Core.List.{List, [], _∷_, _++_}
 use Rattle.lists.specs.Every.{Every}
 use Rattle.lists.specs.Functions.{put, from, within, inside, each, numbered}
 use Rattle.lists.specs.Parts.{tabulate}
@@ -8,7 +7,7 @@ use Rattle.lists.specs.Pieces.{place, pieces, laid}
 use Rattle.lists.proofs.Functions.{_and_}
 use Rattle.model.specs.Rows.{zeroRow, zeroMatrix}
 use Rattle.model.specs.Records.{zeroValue, zeroRecord, opening}
-use Rattle.model.specs.Kinds.{auction, isOperation, barred}
+use Rattle.model.specs.Kinds.{isOperation, barred}
 use Rattle.model.specs.Numbers.{fieldsNumber, kindNumber, beginAnswer, deliverAnswer, crashAnswer}
 use Rattle.model.specs.Member.{idle}
 use Rattle.model.specs.Board.{noEntry, openingEntry, opened, withMember}

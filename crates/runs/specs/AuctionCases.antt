@@ -12,7 +12,7 @@ use Rattle.model.specs.Runs.{Call, deliver, crash}
 use Rattle.model.specs.Table.{memberWords, tableWords}
 use Rattle.model.specs.Halves.{memberBeginNumber}
 use Rattle.model.specs.TableCalls.{tableAnswer}
-use Rattle.runs.specs.Case.{writes, reads, wholeWrite, wholeRead, pair, triple, prints, output, newest, opens, _is_, Case}
+use Rattle.runs.specs.Case.{writes, reads, wholeWrite, wholeRead, pair, triple, prints, output, newest, _is_, Case}
 use Rattle.runs.specs.Cases.{opening, refusals, ofEitherKind}
 use Rattle.runs.specs.ReplyCases.{idleWith}
 

@@ -1,6 +1,5 @@
 -- `open` meets its contract: it is `open_by` with the numbers of document 01's board.
 use borrow.Author.Needs.{needs}
-use native.Mathlib.Omega.{arith}
 use mathlib.Core.Path.{refl}
 use Rattle.model.specs.Kinds.{concur}
 use Rattle.board.proofs.open.Statement.{statement}

@@ -1,5 +1,4 @@
 -- `is_busy` meets its contract: a phase that is not 0 decides, and else the crash mark.
-use borrow.Author.Needs.{needs}
 use native.Mathlib.Omega.{arith}
 use mathlib.Core.Path.{_≡_}
 use borrow.Author.Tests.{eq-eqb, ne-eqb}

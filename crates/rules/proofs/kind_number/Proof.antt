@@ -1,5 +1,4 @@
 -- `kind_number` meets its contract: the test is the definition's.
-use borrow.Author.Needs.{needs}
 use Prim.Native.Nat.{_≤_, _<_}
 use native.Mathlib.Omega.{arith}
 use borrow.Author.Tests.{le-leb, lt-leb}

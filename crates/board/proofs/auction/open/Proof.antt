@@ -1,6 +1,5 @@
 -- `auction::open` meets its contract: it is `open_by` with the numbers of an auction board.
 use borrow.Author.Needs.{needs}
-use native.Mathlib.Omega.{arith}
 use mathlib.Core.Path.{refl}
 use Rattle.model.specs.Kinds.{auction}
 use Rattle.board.proofs.auction.open.Statement.{statement}

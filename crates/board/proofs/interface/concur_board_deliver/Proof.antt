@@ -24,10 +24,12 @@ abbrev fit : tie.After-deliver-on → tie.Else2
 fit c = c .before .before .before
 
 done : (c : tie.After-deliver-on) → let a = start (fit c .before .before) .args in
-    Beside concur (length (a .returned .now)) 9 (a .table .now) (deliver (a .member)) (c .deliver-on .result .number) (c .deliver-on .last .0)
+    Beside concur (length (a .returned .now)) 9 (a .table .now) (deliver (a .member))
+    (c .deliver-on .result .number) (c .deliver-on .last .0)
 done c =
     let left = fit c in
-    done-beside concur _ _ _ _ (of-deliver concur _ _ (left .before .before .table-number .ensures)) (left .before .if1 .left) (left .if2 .left)
+    let e = of-deliver concur _ _ (left .before .before .table-number .ensures) in
+    done-beside concur _ _ _ _ e (left .before .if1 .left) (left .if2 .left)
     (c .deliver-on .ensures .0)
 
 returns : tie.Need-returns

@@ -29,7 +29,8 @@ abbrev fit : tie.After-begin-on-arg → tie.Else2
 fit c = c .before .before
 
 returns : tie.Need-returns
-returns c kind limit most = own-beside kind _ _ _ _ (of-begin kind _ _ _ _ _ (c .before .begin-number .ensures .0 kind most)) (c .if1 .taken)
+returns c kind limit most =
+    own-beside kind _ _ _ _ (of-begin kind _ _ _ _ _ (c .before .begin-number .ensures .0 kind most)) (c .if1 .taken)
 
 returns-2 : tie.Need-returns-2
 returns-2 c kind limit most =

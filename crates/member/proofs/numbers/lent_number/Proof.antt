@@ -4,10 +4,9 @@ use mathlib.Core.Bool.{true}
 use mathlib.Core.Path.{_∙_, _≡_, sym}
 use borrow.Author.Tests.{eq-eqb, ne-eqb}
 use Rattle.lists.specs.Functions.{inside}
-use Rattle.lists.specs.Parts.{words}
 use Rattle.lists.proofs.Functions.{inside-high, inside-low}
 use Rattle.model.specs.Halves.{lentNumber}
-use Rattle.model.specs.Table.{blockNumber, memberOf, soundMember}
+use Rattle.model.specs.Table.{blockNumber}
 use Rattle.laws.proofs.Tests.{allowed, refused}
 use Rattle.member.specs.Needs.{Block}
 use Rattle.member.proofs.numbers.lent_number.Statement.{statement}
