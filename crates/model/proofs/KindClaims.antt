@@ -1,5 +1,5 @@
--- The two kinds of board are as requested: an opening's numbers by the table of its grounds, a begin's ground by ground. A kind is looked at
--- by nothing but these, so that a call which both kinds take does the same on both.
+-- The two kinds of board are as requested: an opening's numbers by the table of its grounds, a begin's ground by ground. Nothing but these
+-- looks at a kind, so that a call which both kinds take does the same on both.
 use Prim.Native.Nat.{ℕ}
 use mathlib.Core.Path.{_≡_, refl, sym, _∙_}
 use mathlib.Core.List.{List, [], _∷_}
@@ -97,7 +97,8 @@ begin-on-block kind n i l r t =
 few-of-twelve : (n : ℕ) → OneTo (auction .most) n → OneTo (concur .most) n
 few-of-twelve n h = omega arith
 
-open-alike : (n : ℕ) (l : List ℕ) → openNumber auction n l ≡ 0 → (openNumber concur n l ≡ 0) × (openWords auction n l ≡ openWords concur n l)
+open-alike : (n : ℕ) (l : List ℕ) → openNumber auction n l ≡ 0
+    → (openNumber concur n l ≡ 0) × (openWords auction n l ≡ openWords concur n l)
 unfolding openWords
 open-alike n l h =
     let k = open-numbers auction n l .done .0 h in

@@ -18,7 +18,8 @@ use Rattle.model.specs.Member.{haltNumber, joined, ownRecord, passed, fa
 use Rattle.model.specs.Member.{outcome, returnedBy}
 use Rattle.model.specs.Board.{noEntry, openingEntry, opened, sentRecord}
 use Rattle.model.specs.Published.{idOf, Called, reads, writes, line33, line34, line37, line38, line38others, line38own, line39}
-use Rattle.model.specs.Published.{line310, line312, line312added, line313, line314, line315, line316, line319, opOf, line321, line323, line326}
+use Rattle.model.specs.Published.{line310, line312, line312added, line313, line314, line315, line316, line319, opOf, line321}
+use Rattle.model.specs.Published.{line323, line326}
 use Rattle.model.specs.Published.{line327, line327writes, line328, afterOk, afterOkWrites, afterAbort, afterAbortAmended, Client}
 use Rattle.model.specs.Published.{clientOpened, Server, serverOpened, submit, commit, line54, line55, line58, line59, line512}
 use Rattle.model.specs.Published.{line512owner, line512writes, line513, received, sameId}

@@ -22,7 +22,8 @@ pub record OpenNumbers (most n : ℕ) (l : List ℕ) (answer : ℕ) : Type 0 whe
   pub done : (answer ≡ 0) ↔ (OneTo most n × (length l ≡ tableSize n))
   pub noOther : (answer ≡ 0) ⊎ (answer ≡ 1) ⊎ (answer ≡ 2)
 
--- begin, on what is lent of a board of n: its own number refuses first, then "1 above 4 members, in begin after 3", then the rest, from 4 on
+-- begin, on what is lent of a board of n: the number of that refuses first, then "1 above 4 members, in begin after 3", then the rest, from
+-- 4 on
 pub record BeginOnLent (most n own rest answer : ℕ) : Type 0 where
   pub first : (own ≡ 0 → ⊥) → answer ≡ own
   pub one : own ≡ 0 → most < n → answer ≡ 1

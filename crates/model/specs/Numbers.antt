@@ -1,6 +1,7 @@
 -- The number that a call is answered with: document 01's "Numbers by the place of the check", from number 4 on, top down. 0 is the
 -- answer where no ground holds. Each is a function of the member's phase and crash mark, of its own count on the slot, and of the
--- arguments, so that the contracts, the board and the reference share it. Before number 4 a begin asks whether its kind has so many members.
+-- arguments, so that the contracts, the board and the reference share it. Before number 4 a begin asks whether its kind may have so many
+-- members.
 use Prim.Native.Nat.{ℕ}
 use mathlib.Core.Bool.{cond, not, _&&_, _||_}
 use lib.Dec.{eqb, leb}

@@ -130,8 +130,8 @@ pub open-size : (kind : Kind) (n : ℕ) (l : List ℕ) → openNumber kind n l �
 unfolding openNumber
 open-size kind n l o = no-failure (inside (kind .most) n) (omega arith) o .0
 
--- Demand 3 of every table that opening took, for every kind, every n and every list of calls whose values have 8 words. The kind's limit and
--- its most members are left open.
+-- Demand 3 of every table that opening took, for every kind, every n and every list of calls whose values have 8 words. The kind's limit
+-- and its most members are left open.
 pub demand3-on-tables : (kind : Kind) (n : ℕ) (l : List ℕ) → openNumber kind n l ≡ 0 → (calls : List Call) → Every CallHeld calls
     → Demand3 kind n calls (tableBoards kind (openWords kind n l) calls) (tableRun kind (openWords kind n l) calls)
 unfolding openWords

@@ -35,7 +35,8 @@ use Rattle.script.specs.Examples.{Holds, examples}
 pub every-example : Every Holds examples
 unfolding examples zeroRow zeroMatrix below matrixBelow comparable larger withCount zeroValue opening zeroRecord recordWithin isOperation
     barred
-    becomesStored fieldsNumber kindNumber beginAnswer deliverAnswer crashAnswer idle begun answered check21 check22 check23 check24 check25 check26
+    becomesStored fieldsNumber kindNumber beginAnswer deliverAnswer crashAnswer idle begun answered check21 check22 check23 check24 check25
+    check26
     check27 haltNumber joined ownRecord passed failed replied judged completed tookOver dropped outcome returnedBy crashedOf submitted
     wins entryAfter storedAfter noEntry openingEntry opened withMember boardBegun submitTaken replyTaken sentRecord commitTaken
     outcomeTaken boardDelivered boardReturned boardCrashed answerOf done doneReturns after seenAt run recordSize rowOf matrixOf
@@ -45,7 +46,8 @@ unfolding examples zeroRow zeroMatrix below matrixBelow comparable larger withCo
     blockNumber entriesNumber fitRecord memberNumber memberBeginNumber memberBeginWords notWaiting replyNumber replyWords
     outcomeNumber outcomeWords outcomeReturns memberCrashNumber memberCrashWords hostNumber submitWords submitNewest submitStored
     commitNumber commitOutcome commitWords openNumber openWords boardIn beginNumber callNumber tableAnswer tableAfter tableReturns
-    phaseWords tableSeen tableRun put pasted from inside within numbered each tabulate place pieces laid isDigit startsWith before beyond digitsWithin
+    phaseWords tableSeen tableRun put pasted from inside within numbered each tabulate place pieces laid isDigit startsWith before beyond
+    digitsWithin
     digits digitsRead limited leadingZero numberOf oneNumber twoNumbers lineOf textOf firstOf callOf caller stepped stepLine stepsFrom
     withByte linesOf boardRun linesRun scriptRun orDash printedLine lastWord printedStep printedSteps boardLine refusedLine printedRun
     scriptOutput

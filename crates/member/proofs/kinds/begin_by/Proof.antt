@@ -35,9 +35,10 @@ unfolding memberBeginWords
 returns-2 c =
     let begins = c .before .before in
     let left = begins .before .before in
+    let before = start (left .before) .args .block .now in
     let long = begins .begin .kept .0 ∙ ready left .block .long in (
       λ kind limit most. sym (taken left kind limit most),
-      λ kind limit most. words-made _ (start (left .before) .args .block .now) _ _ (taken left kind limit most) long (begins .begin .ensures),
+      λ kind limit most. words-made _ before _ _ (taken left kind limit most) long (begins .begin .ensures),
     )
 
 pub begin-by-spec : {M : Type 1} → statement M
