@@ -5,13 +5,12 @@ mod timing;
 
 use plain_board as plain;
 use plain_board::Layout;
-use scenes::{begun, delivered, each_phase, must, operation, ours, used_board, Deliver, Scene, VALUE};
+use scenes::{begun, delivered, each_phase, must, operation, ours, used_board, Begin, Deliver, Scene, VALUE};
 use std::hint::black_box;
 use std::time::Instant;
 use timing::{heading, Pair};
 
 type Open = fn(&mut [u32], u32) -> u32;
-type Begin = fn(&mut [u32], u32, u32, u32, &[u32]) -> u32;
 type Crash = fn(&mut [u32], u32) -> u32;
 
 /// A call of which there is one plain version.
@@ -37,14 +36,14 @@ fn opening(n: u32) {
     two(&scene, &format!("open, n = {}", n), ways, 0);
 }
 
-fn beginning(n: u32, member: u32, slot: u32) {
-    let at = Layout::of(n as usize).block_at(member);
-    let mut scene = Scene { table: used_board(n), back: vec![at..at + 5 + n as usize] };
-    let ways = [ours::begin as Begin, plain::begin].map(|f| move |t: &mut [u32]| f(t, black_box(member), slot, operation(member, slot), &VALUE));
-    let what = if member == slot { "write" } else { "read" };
-    two(&scene, &format!("begin of a {}, n = {}", what, n), ways, 0);
+fn beginning(name: &str, begins: [Begin; 2], n: u32, member: u32, slot: u32) {
+    let what = format!("{} of a {}", name, if member == slot { "write" } else { "read" });
+    let times = Scene::begins(n, member, slot, begins);
+    Pair { ours: times[0], plain: times[1] }.print(&format!("{}, n = {}", what, n));
+    let mut scene = Scene { table: used_board(n), back: vec![] };
     begun(&mut scene.table, member, slot);
-    two(&scene, &format!("begin of a {}, 8, n = {}", what, n), ways, 8);
+    let ways = begins.map(|f| move |t: &mut [u32]| f(t, black_box(member), slot, operation(member, slot), &VALUE));
+    two(&scene, &format!("{}, 8, n = {}", what, n), ways, 8);
 }
 
 fn crashing(n: u32, member: u32) {
@@ -108,8 +107,12 @@ fn main() {
     for n in [2, 6, 12] {
         heading();
         opening(n);
-        beginning(n, n, 1);
-        beginning(n, n, n);
+        for slot in [1, n] {
+            beginning("begin", [ours::begin, plain::begin], n, n, slot);
+            if n <= 4 {
+                beginning("auction begin", [ours::auction_begin, plain::auction_begin], n, n, slot);
+            }
+        }
         crashing(n, n);
         heading_three();
         delivering(n, n, 1);

@@ -126,7 +126,7 @@ pub fn open(t: &mut [u32], n: u32) -> u32 {
     0
 }
 
-fn begin_number(b: &[u32], n: u32, member: u32, slot: u32, operation: u32) -> u32 {
+fn begin_number(b: &[u32], limit: u32, n: u32, member: u32, slot: u32, operation: u32) -> u32 {
     if !numbered(slot, n) {
         return 5;
     }
@@ -139,7 +139,7 @@ fn begin_number(b: &[u32], n: u32, member: u32, slot: u32, operation: u32) -> u3
     if b[PHASE] != 0 || b[CRASHED] != 0 {
         return 8;
     }
-    if b[OWN + slot as usize - 1] == u32::MAX {
+    if b[OWN + slot as usize - 1] >= limit {
         return 9;
     }
     0
@@ -147,10 +147,23 @@ fn begin_number(b: &[u32], n: u32, member: u32, slot: u32, operation: u32) -> u3
 
 #[inline(never)]
 pub fn begin(t: &mut [u32], member: u32, slot: u32, operation: u32, value: &[u32]) -> u32 {
+    begin_by(t, u32::MAX, 12, member, slot, operation, value)
+}
+
+#[inline(never)]
+pub fn auction_begin(t: &mut [u32], member: u32, slot: u32, operation: u32, value: &[u32]) -> u32 {
+    begin_by(t, 9_999, 4, member, slot, operation, value)
+}
+
+/// Begin on a board of a kind: the limit of an own count, and the most members.
+fn begin_by(t: &mut [u32], limit: u32, most: u32, member: u32, slot: u32, operation: u32, value: &[u32]) -> u32 {
     let l = match table_number(t) {
         Ok(l) => l,
         Err(number) => return number,
     };
+    if l.n as u32 > most {
+        return 1;
+    }
     if value.len() != 8 {
         return 2;
     }
@@ -159,7 +172,7 @@ pub fn begin(t: &mut [u32], member: u32, slot: u32, operation: u32, value: &[u32
     }
     let at = l.block_at(member);
     let b = &mut t[at..at + l.block];
-    let number = begin_number(b, l.n as u32, member, slot, operation);
+    let number = begin_number(b, limit, l.n as u32, member, slot, operation);
     if number != 0 {
         return number;
     }

@@ -1,6 +1,6 @@
 #!/usr/bin/env bash
 # Builds the proved archives and the timing programs, and runs them once: bench/run.sh [REVISION]
-# With a revision, that revision's message check and deliver are timed beside the ones that stand here, and nothing else.
+# With a revision, that revision's message check, begin and deliver are timed beside the ones that stand here, and nothing else.
 set -eu
 cd "$(dirname "$0")/.."
 out=$(mktemp -d)
@@ -57,7 +57,7 @@ if [ $# -gt 0 ]; then
     mkdir "$out/revision"
     git archive "$1" | tar -x -C "$out/revision"
     earlier messages earlier_check
-    earlier board earlier_deliver
+    earlier board earlier_board
     exit
 fi
 archive messages

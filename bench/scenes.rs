@@ -10,6 +10,7 @@ pub mod ours {
         extern "C" {
             pub fn concur_board_open(table: *mut u32, words: usize, n: u32) -> u32;
             pub fn concur_board_begin(table: *mut u32, words: usize, member: u32, slot: u32, operation: u32, value: *const u32, room: usize) -> u32;
+            pub fn concur_auction_begin(table: *mut u32, words: usize, member: u32, slot: u32, operation: u32, value: *const u32, room: usize) -> u32;
             pub fn concur_board_deliver(table: *mut u32, words: usize, member: u32, returned: *mut u32, room: usize) -> u32;
             pub fn concur_board_crash(table: *mut u32, words: usize, member: u32) -> u32;
         }
@@ -23,6 +24,10 @@ pub mod ours {
         unsafe { c::concur_board_begin(t.as_mut_ptr(), t.len(), member, slot, operation, value.as_ptr(), value.len()) }
     }
 
+    pub fn auction_begin(t: &mut [u32], member: u32, slot: u32, operation: u32, value: &[u32]) -> u32 {
+        unsafe { c::concur_auction_begin(t.as_mut_ptr(), t.len(), member, slot, operation, value.as_ptr(), value.len()) }
+    }
+
     pub fn deliver(t: &mut [u32], member: u32, returned: &mut [u32]) -> u32 {
         unsafe { c::concur_board_deliver(t.as_mut_ptr(), t.len(), member, returned.as_mut_ptr(), returned.len()) }
     }
@@ -32,6 +37,7 @@ pub mod ours {
     }
 }
 
+pub type Begin = fn(&mut [u32], u32, u32, u32, &[u32]) -> u32;
 pub type Deliver = fn(&mut [u32], u32, &mut [u32]) -> u32;
 
 pub const VALUE: [u32; 8] = [1, 2, 3, 4, 5, 6, 7, 8];
@@ -117,6 +123,16 @@ impl Scene {
         let mut times = best(rounds);
         let back = times.pop().unwrap();
         times.iter().map(|time| time - back).collect()
+    }
+
+    /// A begin by each of these ways, on a board where nothing runs, in nanoseconds of a call.
+    pub fn begins<const N: usize>(n: u32, member: u32, slot: u32, begins: [Begin; N]) -> Vec<f64> {
+        let at = Layout::of(n as usize).block_at(member);
+        let scene = Scene { table: used_board(n), back: vec![at..at + 5 + n as usize] };
+        let ways = begins.map(|f| move |t: &mut [u32]| f(t, black_box(member), slot, operation(member, slot), &VALUE));
+        let after = scene.alike(&ways, 0);
+        scene.repeats(&ways[0], &after);
+        scene.times(&ways)
     }
 
     /// A deliver by each of these ways, in nanoseconds of a call.

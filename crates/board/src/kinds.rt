@@ -18,6 +18,7 @@ use tables::check::table_number;
 use tables::steps::open_all;
 use tables::steps::table_size;
 
+// Opening, for a kind of at most so many members.
 pub fn open_by(table: &mut [u32], most: u32, n: u32) -> u32
     requires { ⌜ most ≤ mostMembers ⌝ }
     ensures { λ r. ⌜ ((kind : Kind) → most ≡ kind .most
@@ -45,6 +46,7 @@ fn begin_number(table: &[u32], most: u32) -> u32
     kind_number(most, table[0])
 }
 
+// Begin: what refuses it whatever its arguments, then the numbers from 4 on, then the step.
 pub fn begin_by(
     table: &mut [u32],
     limit: u32,
@@ -65,7 +67,7 @@ pub fn begin_by(
     begin_on(table, limit, n, member, slot, operation, value)
 }
 
-// The same with the value in a slice.
+// The same with the value in a slice, whose length is judged in between.
 pub fn begin_beside(
     table: &mut [u32],
     limit: u32,
