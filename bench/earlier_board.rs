@@ -11,7 +11,9 @@ use scenes::{each_phase, ours, Begin, Deliver, Scene};
 mod earlier {
     mod c {
         extern "C" {
-            pub fn earlier_concur_board_begin(t: *mut u32, words: usize, member: u32, slot: u32, operation: u32, value: *const u32, room: usize) -> u32;
+            pub fn earlier_concur_board_begin(
+                t: *mut u32, words: usize, member: u32, slot: u32, operation: u32, value: *const u32, room: usize,
+            ) -> u32;
             pub fn earlier_concur_board_deliver(t: *mut u32, words: usize, member: u32, returned: *mut u32, room: usize) -> u32;
         }
     }
