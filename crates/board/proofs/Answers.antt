@@ -1,5 +1,5 @@
 -- What is known of a table that passed its check, and what a call leaves and answers.
-use Prim.Native.Nat.{ℕ, _+_, _<_, _^_}
+use Prim.Native.Nat.{ℕ, _<_}
 use native.Mathlib.Omega.{arith}
 use mathlib.Core.Path.{_≡_, refl, sym, ap, _∙_}
 use mathlib.Core.Bool.{true, false, cond}
@@ -217,6 +217,3 @@ module _ (n : ℕ) (b : Board) (i p : ℕ) (e : b .members i .phase ≡ p) where
 
   pub last-phase : (p ≡ 1 → ⊥) → (p ≡ 2 → ⊥) → (p ≡ 3 → ⊥) → outcomeTaken b i (eqb p 4) ≡ boardDelivered n b i
   last-phase x y z = sym (board-phase n b i p e ∙ rw (ne-eqb p 1 x, ne-eqb p 2 y, ne-eqb p 3 z))
-
-pub count-room : {k limit : ℕ} → limit < 2 ^ 32 → k < limit → k + 1 < 2 ^ 32
-count-room s h = omega arith

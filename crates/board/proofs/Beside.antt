@@ -19,7 +19,6 @@ use Rattle.model.specs.RecordWords.{valueOf}
 use Rattle.model.specs.Runs.{Call, begin}
 use Rattle.model.specs.Table.{valueSize}
 use Rattle.model.specs.TableCalls.{callNumber, tableAnswer, tableAfter, tableReturns}
-use Rattle.laws.proofs.Records.{valueOf-same}
 use Rattle.member.specs.Results.{returnedIn}
 use Rattle.member.specs.declared.Outcome.{Outcome}
 use Rattle.board.specs.Needs.{Answered}
@@ -100,11 +99,6 @@ handed-words r exit value first long same h =
     tail : tabulate valueSize (from (words exit) 1) ≡ listed valueSize (numbered 8 0 (words value))
     tail = tabulate-same valueSize (from (words exit) 1) (λ i. numbered 8 0 (words value) (i + 1)) (λ i p.
         ap (λ w. from w 1 i) h ∙ from-pasted-at 1 valueSize (words value) old i p ∙ sym (numbered-at 8 0 (words value) i p))
-
--- a value that was read from the start of its slice
-pub from-start : (w : ℕ → ℕ) → valueOf (from w 0) ≡ valueOf w
-unfolding from
-from-start w = valueOf-same (λ i. w (0 + i)) w (λ i p. let e : 0 + i ≡ i = omega arith in ap w e)
 
 pub same-value : {kind : Kind} {n : ℕ} {l : List ℕ} {i r t : ℕ} {v w : Value} {k : ℕ} {exit : List ℕ} → v ≡ w
     → Answered kind n l (begin i r t v) k exit → Answered kind n l (begin i r t w) k exit

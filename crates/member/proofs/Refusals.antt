@@ -87,13 +87,13 @@ running n i l g h = record { block = g .block; slot = sound-slot n i (memberOf n
 
 -- What each call's step asks.
 
-pub begin-good : (kind : Kind) → kind .limit < 2 ^ 32 → (n i : ℕ) (l : List ℕ) (r t : ℕ) → lentNumber n i l ≡ 0
+pub begins : (kind : Kind) → kind .limit < 2 ^ 32 → (n i : ℕ) (l : List ℕ) (r t : ℕ) → Block n l
     → (let m = memberOf n (words l) in beginAnswer kind n (m .phase) (m .crashed) (m .own r) i r t) ≡ 0 → Begins n l r
-begin-good kind small n i l r t z h =
+begins kind small n i l r t b h =
     let m = memberOf n (words l) in
     let k = begin-taken kind n (m .phase) (m .crashed) (m .own r) i r t h in
     let spare = k .room in
-    record { block = lent n i l z .block; slot = numbered n r (k .slot); room = omega arith }
+    record { block = b; slot = numbered n r (k .slot); room = omega arith }
 
 -- taking a message, in phase p
 waits : (p : ℕ) (m : Member) → notWaiting p m ≡ false → m .phase ≡ p

@@ -121,6 +121,7 @@ pub fn begin_answer_on(
     ensures { λ r. let m = memberIn n (now (block .entry)) in
         ⌜ ((kind : Kind) → limit ≡ kind .limit
         → r ≡ beginAnswer kind n (m .phase) (m .crashed) (m .own slot) member slot operation) ⌝ }
+    ensures { λ r. ⌜ (r ≡ 0 → Begins n (now (block .entry)) slot) ⌝ }
 {
     let count = own_count(block, n, slot);
     begin_answer(

@@ -1,7 +1,7 @@
 -- `begin_on` meets its contract: there is no such member, or the block that is lent refuses, or the operation is begun on it.
 use borrow.Author.Needs.{needs}
 use native.Mathlib.Omega.{arith}
-use mathlib.Core.Path.{_∙_, _≡_, refl, ap, sym}
+use mathlib.Core.Path.{_∙_, _≡_, ap, sym}
 use Rattle.lists.specs.Parts.{words}
 use Rattle.model.specs.Board.{boardBegun}
 use Rattle.model.specs.Kinds.{Kind}
@@ -10,11 +10,10 @@ use Rattle.model.specs.Numbers.{beginAnswer}
 use Rattle.model.specs.RecordWords.{valueOf}
 use Rattle.model.specs.Runs.{Call, answerOf, begin, done}
 use Rattle.model.specs.Table.{boardOf}
-use Rattle.model.proofs.Answers.{begin-taken}
 use Rattle.laws.proofs.Tests.{allowed, refused}
 use Rattle.lists.specs.Functions.{Within}
 use Rattle.tables.proofs.Lent.{BlockLent, block-lent, member-lent, step-left, whole-block}
-use Rattle.board.proofs.Answers.{count-room, no-begin, refuses, takes, within}
+use Rattle.board.proofs.Answers.{no-begin, refuses, takes, within}
 use Rattle.board.proofs.calls.begin_on.Statement.{statement}
 use Rattle.board.proofs.calls.begin_on.Tie as tie
 
@@ -45,13 +44,9 @@ answered : (c : tie.After-begin-answer-on) (kind : Kind) → let s = start-sized
 unfolding answerOf
 answered c kind limit =
     let a = start-sized (sized c) .args in
-    c .begin-answer-on .ensures kind limit
+    c .begin-answer-on .ensures .0 kind limit
     ∙ ap (λ m. beginAnswer kind (a .n) (m .phase) (m .crashed) (m .own (a .slot)) (a .member) (a .slot) (a .operation))
     (member-lent (lent (sized c)))
-
--- a kind that has the limit
-abbrev limited : tie.After-begin-answer-on → Kind
-limited c = record { limit = start-sized (sized c) .args .limit; most = 0; sized = omega arith }
 
 -- The needs.
 
@@ -73,15 +68,7 @@ returns-2 c kind limit =
     refuses kind _ _ (call s) _ (s .pre) (answered (c .before) kind limit) (c .if2 .taken)
 
 begin-requires : tie.Need-begin-requires
-begin-requires c κs =
-    let asked = c .before .before in
-    let kind = limited asked in
-    let k = begin-taken kind _ _ _ _ _ _ _ (sym (asked .begin-answer-on .ensures kind refl) ∙ c .before .if2 .left) in
-    record {
-      block = whole-block (lent (sized asked));
-      slot = within _ _ (k .slot);
-      room = count-room (start-sized (sized asked) .fits .limit .fits) (k .room);
-    }
+begin-requires c κs = c .before .before .begin-answer-on .ensures .1 (c .before .if2 .left)
 
 returns-3 : tie.Need-returns-3
 unfolding done boardBegun

@@ -2,13 +2,15 @@
 -- value's length, or `begin_on` with the value that is read.
 use borrow.Author.Needs.{needs}
 use native.Mathlib.Omega.{arith}
-use mathlib.Core.Path.{_≡_, _∙_}
+use mathlib.Core.Path.{_≡_, ap, _∙_}
 use lib.ListN.{length}
 use Rattle.lists.specs.Parts.{words}
+use Rattle.lists.proofs.Functions.{from-zero}
+use Rattle.model.specs.RecordWords.{valueOf}
 use Rattle.model.specs.Table.{valueSize}
 use Rattle.board.specs.Needs.{Sound}
 use Rattle.board.proofs.Answers.{of-begin, some-words}
-use Rattle.board.proofs.Beside.{done-beside, from-start, long-beside, own-beside, same-value}
+use Rattle.board.proofs.Beside.{done-beside, long-beside, own-beside, same-value}
 use Rattle.board.proofs.kinds.begin_beside.Statement.{statement}
 use Rattle.board.proofs.kinds.begin_beside.Tie as tie
 
@@ -51,7 +53,7 @@ returns-3 c kind limit most =
     let does = c .before .before in
     let left = fit (does .before .before) in
     let passed = left .before in
-    let value = does .before .load-value .ensures ∙ from-start (words (start (passed .before) .args .value .now)) in
+    let value = does .before .load-value .ensures ∙ ap valueOf (from-zero (words (start (passed .before) .args .value .now))) in
     done-beside kind _ _ _ _ (of-begin kind _ _ _ _ _ (passed .before .begin-number .ensures .0 kind most)) (passed .if1 .left) (fits left)
     (same-value value (does .begin-on .ensures kind limit))
 

@@ -1,12 +1,10 @@
 -- `begin_number` meets its contract for the kind that has its limit and its most members: what is lent refuses, or the kind, or the begin's
--- own numbers answer. Where they answer 0, what the step asks is known by any kind that has the limit.
+-- own numbers answer, and say what the step asks where they are 0.
 use borrow.Author.Needs.{needs}
-use native.Mathlib.Omega.{arith}
 use mathlib.Core.Path.{_≡_, refl, sym, _∙_}
 use Rattle.lists.proofs.Refusals.{number-refuses, number-passes}
 use Rattle.model.specs.Halves.{lentNumber, memberBeginNumber}
-use Rattle.model.specs.Kinds.{Kind}
-use Rattle.member.proofs.Refusals.{lent, begin-good}
+use Rattle.member.proofs.Refusals.{lent}
 use Rattle.member.proofs.numbers.begin_number.Statement.{statement}
 use Rattle.member.proofs.numbers.begin_number.Tie as tie
 
@@ -22,10 +20,6 @@ refused c e = c .if1 .taken (c .before .before .lent-number .ensures ∙ e)
 
 passed : (c : tie.Else1) → let a = start (asked c) .args in lentNumber (a .n) (a .member) (a .block .now) ≡ 0
 passed c = sym (asked c .before .lent-number .ensures) ∙ c .if1 .left
-
--- a kind that has the limit
-abbrev limited : tie.Else1 → Kind
-limited c = record { limit = start (asked c) .args .limit; most = 0; sized = omega arith }
 
 returns : tie.Need-returns
 unfolding memberBeginNumber
@@ -49,11 +43,10 @@ returns-3 : tie.Need-returns-3
 unfolding memberBeginNumber
 returns-3 c =
     let left = c .before .before in
-    let answers = c .begin-answer-on in (
+    let answers = c .begin-answer-on .ensures in (
       λ kind limit most. number-passes {number = 0} (sym (passed left)) refl
-          (number-passes (asked left .kind-number .ensures kind most) (c .before .if2 .left) (answers .ensures kind limit)),
-      λ z. begin-good (limited left) (start (asked left) .fits .limit .fits) _ _ _ _ _ (passed left)
-          (sym (answers .ensures (limited left) refl) ∙ z),
+          (number-passes (asked left .kind-number .ensures kind most) (c .before .if2 .left) (answers .0 kind limit)),
+      answers .1,
     )
 
 pub begin-number-spec : {M : Type 1} → statement M

@@ -1,11 +1,14 @@
--- `begin_answer_on` meets its contract: the rule's answer on the words of the block.
+-- `begin_answer_on` meets its contract: the rule's answer on the words of the block. Where it is 0, what begin asks is known by any kind
+-- that has the limit.
 use borrow.Author.Needs.{needs}
-use mathlib.Core.Path.{ap, _∙_}
+use mathlib.Core.Path.{_≡_, refl, sym, ap, _∙_}
 use native.Mathlib.Omega.{arith}
 use Rattle.lists.specs.Parts.{words}
+use Rattle.model.specs.Kinds.{Kind}
 use Rattle.model.specs.Numbers.{beginAnswer}
 use Rattle.model.specs.Table.{memberOf}
 use Rattle.member.proofs.Sizes.{head-room}
+use Rattle.member.proofs.Refusals.{begins}
 use Rattle.member.proofs.steps.begin_answer_on.Statement.{statement}
 use Rattle.member.proofs.steps.begin_answer_on.Tie as tie
 
@@ -15,14 +18,30 @@ shared-slice-read-begin-answer c = omega (arith, head-room (c .before .before .b
 shared-slice-read-begin-answer-2 : tie.Need-shared-slice-read-begin-answer-2
 shared-slice-read-begin-answer-2 c = omega (arith, head-room (c .before .before .before .before .args .n))
 
-returns : tie.Need-returns
+abbrev start : tie.After-begin-answer → tie.Start
+start c = let counted = c .before .before .before in counted .before .before
+
+answered : (c : tie.After-begin-answer) (kind : Kind)
+    → let a = start c .args in
+    let m = memberOf (a .n) (words (a .block .now)) in
+    a .limit ≡ kind .limit
+    → c .begin-answer .result ≡ beginAnswer kind (a .n) (m .phase) (m .crashed) (m .own (a .slot)) (a .member) (a .slot) (a .operation)
 unfolding memberOf
-returns c kind same =
-    let a = c .before .before .before .before .before .args in
+answered c kind same =
+    let a = start c .args in
     let w = words (a .block .now) in
     c .begin-answer .ensures kind same
     ∙ ap (λ count. beginAnswer kind (a .n) (w 0) (w 1) count (a .member) (a .slot) (a .operation))
     (c .before .before .before .own-count .ensures)
+
+-- a kind that has the limit
+abbrev limited : tie.After-begin-answer → Kind
+limited c = record { limit = start c .args .limit; most = 0; sized = omega arith }
+
+returns : tie.Need-returns
+returns c =
+    let s = start c in
+    (answered c, λ z. begins (limited c) (s .fits .limit .fits) _ _ _ _ _ (s .pre) (sym (answered c (limited c) refl) ∙ z))
 
 pub begin-answer-on-spec : {M : Type 1} → statement M
 begin-answer-on-spec =
