@@ -33,3 +33,5 @@ pub mod Ids
 pub mod HostPrinted
 pub mod HostHalf
 pub mod PublishedHost
+pub mod OvertakerMarks
+pub mod Overtaker

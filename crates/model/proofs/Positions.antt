@@ -115,7 +115,7 @@ module _ (look : ℕ → Option Step) (p : ℕ → ℕ) (w : Watch) (h : Places 
 -- Whole runs.
 
 -- the step of each number is looked up in what is still to come
-abbrev Ahead : (ℕ → Option Step) → ℕ → List Call → List Seen → Type 0
+abbrev pub Ahead : (ℕ → Option Step) → ℕ → List Call → List Seen → Type 0
 Ahead look steps calls seen = (k : ℕ) → 0 < k → stepAt calls seen k ≡ look (steps + k)
 
 ahead-here : (look : ℕ → Option Step) (steps : ℕ) (call : Call) (calls : List Call) (s : Seen) (seen : List Seen)
@@ -133,13 +133,13 @@ ahead-next look steps call calls s seen next n h k z =
     ∙ h (k + 1) (omega arith) ∙ ap look f
 
 -- what a run leaves, where every move keeps Q
-record Left (look : ℕ → Option Step) (Q : (ℕ → ℕ) → Watch → Type 0) (x : Watch) : Type 0 where
-  phases : ℕ → ℕ
-  places : Places look phases x
-  kept : Q phases x
+pub record Left (look : ℕ → Option Step) (Q : (ℕ → ℕ) → Watch → Type 0) (x : Watch) : Type 0 where
+  pub phases : ℕ → ℕ
+  pub places : Places look phases x
+  pub kept : Q phases x
 
 module _ (look : ℕ → Option Step) where
-  run-left : (Q : (ℕ → ℕ) → Watch → Type 0)
+  pub run-left : (Q : (ℕ → ℕ) → Watch → Type 0)
       → ((p q : ℕ → ℕ) (w x : Watch) → Moved look p w q x → Places look p w → Q p w → Q q x)
       → (p : ℕ → ℕ) (w : Watch) → Places look p w → Q p w → (calls : List Call) (seen : List Seen)
       → Ahead look (w .steps) calls seen → RunMoves p calls seen → Left look Q (watchFrom w calls seen)
@@ -190,7 +190,7 @@ module _ (look : ℕ → Option Step) where
       )
 
 -- at first nothing has happened
-places-nothing : (look : ℕ → Option Step) → Places look (λ i. 0) nothingYet
+pub places-nothing : (look : ℕ → Option Step) → Places look (λ i. 0) nothingYet
 unfolding nothingYet noOp begunCount
 places-nothing look = record {
   running = λ i. record {

@@ -168,8 +168,11 @@ lastWritten r [] = zeroValue
 lastWritten r (o ∷ ops) =
     cond (eqb (o .given .slot) r && eqb (o .given .operation) write) (o .given .value) (lastWritten r ops)
 
+-- whether a submit was for the operation's slot, and taken between its own submit and its commit
+abbrev pub overtakes : Submit → Op → Bool
+overtakes s o = eqb (s .slot) (o .given .slot) && (ltb (o .submitAt) (s .at) && ltb (s .at) (o .verdictAt))
+
 -- whether the host took another submit for the operation's slot between its submit and its commit
 unfoldable pub contested : Op → List Submit → Bool
 contested o [] = false
-contested o (s ∷ submits) =
-    (eqb (s .slot) (o .given .slot) && (ltb (o .submitAt) (s .at) && ltb (s .at) (o .verdictAt))) || contested o submits
+contested o (s ∷ submits) = overtakes s o || contested o submits

@@ -21,6 +21,8 @@ pub mod Halves
 pub mod TableCalls
 pub mod KindClaims
 pub mod Script
+pub mod Overtaker
+pub mod OvertakerClaims
 pub mod Messages
 pub mod LengthClaims
 pub mod Published

@@ -167,6 +167,19 @@ callOf (delivers m) = some (deliver m)
 callOf (crashes m) = some (crash m)
 callOf malformed = none
 
+-- the call that the bytes of a line make: none where they have another form
+abbrev pub lineCall : List ℕ → Option Call
+lineCall line = callOf (lineOf line)
+
+-- the calls of the lines that make one, in order
+unfoldable pub withCall : Option Call → List Call → List Call
+withCall none calls = calls
+withCall (some call) calls = call ∷ calls
+
+unfoldable pub callsOf : List (List ℕ) → List Call
+callsOf [] = []
+callsOf (line ∷ lines) = withCall (lineCall line) (callsOf lines)
+
 unfoldable pub caller : Call → ℕ
 caller (begin i r t v) = i
 caller (deliver i) = i
@@ -184,7 +197,7 @@ stepped kind table (some call) =
     record { table = tableAfter kind table call; happened = some (step call (tableSeen kind table call)) }
 
 unfoldable pub stepLine : Kind → List ℕ → List ℕ → Stepped
-stepLine kind table line = stepped kind table (callOf (lineOf line))
+stepLine kind table line = stepped kind table (lineCall line)
 
 -- each line, on the table that the one before left
 unfoldable pub stepsFrom : Kind → List ℕ → List (List ℕ) → List (Option Step)

@@ -14,10 +14,10 @@ use Rattle.model.specs.Runs.{Call}
 use Rattle.lists.specs.Every.{Every}
 use Rattle.model.specs.Table.{tableSize, tableWords}
 use Rattle.model.specs.TableCalls.{openNumber, openWords, tableRun}
-use Rattle.model.specs.Script.{Line, writes, reads, delivers, crashes, malformed, lineOf, callOf, stepped, stepLine, stepsFrom}
-use Rattle.model.specs.Script.{linesOf, firstOf, mostSteps, boardRun, linesRun, scriptRun, printedRun, scriptOutput}
+use Rattle.model.specs.Script.{Line, writes, reads, delivers, crashes, malformed, lineOf, callOf, lineCall, withCall, callsOf}
+use Rattle.model.specs.Script.{stepped, stepLine, stepsFrom, linesOf, firstOf, mostSteps, boardRun, linesRun, scriptRun, printedRun, scriptOutput}
 use Rattle.laws.proofs.Tables.{length-table}
-use Rattle.runs.specs.Scripts.{lineCall, stepCall, withCall, callsOf, withSeen, seenOf, StepsRun, ScriptRun}
+use Rattle.runs.specs.Scripts.{stepCall, withSeen, seenOf, StepsRun, ScriptRun}
 use Rattle.runs.proofs.Held.{CallHeld}
 use Rattle.runs.proofs.Words.{zero-held, last-held}
 use Rattle.runs.proofs.Tables.{demand3-on-tables}

@@ -10,24 +10,12 @@ use Rattle.model.specs.Runs.{Call, Seen, Step, step}
 use Rattle.model.specs.Demand3.{Demand3}
 use Rattle.model.specs.Table.{tableWords}
 use Rattle.model.specs.TableCalls.{tableRun, tableBoards}
-use Rattle.model.specs.Script.{callOf, lineOf, mostSteps, Run, ran, boardLine, printedSteps}
+use Rattle.model.specs.Script.{lineCall, callsOf, mostSteps, Run, ran, boardLine, printedSteps}
 
--- the call that a line makes, and that of a step: none where the line is malformed
-abbrev pub lineCall : List ℕ → Option Call
-lineCall line = callOf (lineOf line)
-
+-- the call that a step made: none where its line is malformed
 unfoldable pub stepCall : Option Step → Option Call
 stepCall none = none
 stepCall (some (step call s)) = some call
-
--- the calls of the lines that make one, in order
-unfoldable pub withCall : Option Call → List Call → List Call
-withCall none calls = calls
-withCall (some call) calls = call ∷ calls
-
-unfoldable pub callsOf : List (List ℕ) → List Call
-callsOf [] = []
-callsOf (line ∷ lines) = withCall (lineCall line) (callsOf lines)
 
 -- what was seen at the steps that made a call, in order
 unfoldable pub withSeen : Option Step → List Seen → List Seen

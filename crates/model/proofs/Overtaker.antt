@@ -1,0 +1,294 @@
+-- Both answers about an overtaker hold: a submit is named exactly for an operation that was aborted, and it is the first that was taken
+-- on its slot in between. From demand 3's claims: an aborted operation is a contested one, and the watcher's positions are the steps.
+use Prim.Native.Nat.{ℕ, _+_, _-_, _≤_, _<_}
+use mathlib.Core.Path.{_≡_, refl, sym, ap, subst, _∙_}
+use mathlib.Core.Bool.{Bool, true, false, cond, not, _&&_, _||_}
+use mathlib.Core.List.{List, [], _∷_}
+use mathlib.Core.Logic.{_⊎_, inl, inr, ⊎-elim}
+use mathlib.Core.Option.{Option, none, some}
+use native.Mathlib.Omega.{arith}
+use lib.Dec.{eqb, ltb}
+use borrow.Author.Tests.{eq-eqb, lt-ltb, eqb-true, eqb-false, ltb-true}
+use Rattle.lists.specs.Every.{Every, Some}
+use Rattle.lists.proofs.Functions.{on, both, first, second, apart}
+use Rattle.model.specs.Kinds.{Kind}
+use Rattle.model.specs.Board.{Board}
+use Rattle.model.specs.Runs.{Call, begin, deliver, crash, Seen, Step, step}
+use Rattle.model.specs.Reference.{refIdle, refOpened}
+use Rattle.model.specs.History.{Op, Submit, Watch, nothingYet, watched, overtakes, contested}
+use Rattle.model.specs.Positions.{stepAt, IsDeliver, begunCount, Decided, Placed, AllPlaced}
+use Rattle.model.specs.Demand3.{Demand3}
+use Rattle.model.specs.Overtaker.{abortedOp, earlier, firstOvertaking, overtaking, overtakerIn}
+use Rattle.model.specs.OvertakerClaims.{slotBegun, TakesSubmit, Aborted, Overtook, Answered}
+use Rattle.model.proofs.HistoryLists.{every}
+use Rattle.model.proofs.Phases.{RunMoves, run-moves}
+use Rattle.model.proofs.PositionsInvariant.{Places}
+use Rattle.model.proofs.Positions.{Ahead, run-left, places-nothing}
+use Rattle.model.proofs.OvertakerMarks.{Judged, Falling, Marks, marks-after, marks-nothing}
+
+-- Lists of operations and submits.
+
+-- one of which P holds, with all that holds of each
+record OneOf {A : Type 0} (P : A → Type 0) (l : List A) : Type 1 where
+  one : A
+  holds : P one
+  listed : (Q : A → Type 0) → Every Q l → Q one
+
+one-of : {A : Type 0} (P : A → Type 0) (l : List A) → Some P l → OneOf P l
+one-of P [] s = absurd s
+one-of P (x ∷ l) s = ⊎-elim
+    (λ y. record { one = x; holds = y; listed = λ Q h. h .0 })
+    (λ y. let o = one-of P l y in record { one = o .one; holds = o .holds; listed = λ Q h. o .listed Q (h .1) })
+    s
+
+none-or-some : {A : Type 0} {x : A} → _≡_ {A = Option A} none (some x) → ⊥
+none-or-some e = let z : _≡_ {A = ℕ} 0 1 = cc in omega arith
+
+-- the operation that was found is one of the list's, and what holds of each holds of it
+record FoundOp (i k : ℕ) (ops : List Op) (o : Op) : Type 1 where
+  member : o .given .member ≡ i
+  ordinal : o .ordinal ≡ k
+  aborted : o .accepted ≡ false
+  listed : (P : Op → Type 0) → Every P ops → P o
+
+module _ (i k : ℕ) where
+  abbrev fits : Op → Bool
+  fits o = eqb (o .given .member) i && (eqb (o .ordinal) k && not (o .accepted))
+
+  not-true : (b : Bool) → not b ≡ true → b ≡ false
+  not-true true e = sym e
+  not-true false e = refl
+
+  op-found : (ops : List Op) (o : Op) → abortedOp i k ops ≡ some o → FoundOp i k ops o
+  unfolding abortedOp
+  op-found [] o e = absurd (none-or-some e)
+  op-found (x ∷ ops) o e = on (fits x)
+      (λ f. let same : x ≡ o = (cc (rw f at e)) in
+      let rest = second (eqb (x .given .member) i) (eqb (x .ordinal) k && not (x .accepted)) f in
+      subst (FoundOp i k (x ∷ ops)) same (record {
+        member = eqb-true (x .given .member) i (first (eqb (x .given .member) i) (eqb (x .ordinal) k && not (x .accepted)) f);
+        ordinal = eqb-true (x .ordinal) k (first (eqb (x .ordinal) k) (not (x .accepted)) rest);
+        aborted = not-true (x .accepted) (second (eqb (x .ordinal) k) (not (x .accepted)) rest);
+        listed = λ P h. h .0;
+      }))
+      (λ f. let d = op-found ops o (rw f at e) in
+      record { member = d .member; ordinal = d .ordinal; aborted = d .aborted; listed = λ P h. d .listed P (h .1) })
+
+  -- where none was found, none is such
+  op-none : (ops : List Op) → abortedOp i k ops ≡ none
+      → Every (λ o. o .given .member ≡ i → o .ordinal ≡ k → o .accepted ≡ false → ⊥) ops
+  unfolding abortedOp
+  op-none [] e = tt
+  op-none (x ∷ ops) e = on (fits x)
+      (λ f. absurd (none-or-some (sym (rw f at e))))
+      (λ f. (
+        (λ m n a. apart (both (eq-eqb (x .given .member) i m) (both (eq-eqb (x .ordinal) k n) (ap not a))) f),
+        op-none ops (rw f at e),
+      ))
+
+-- the submit that was found is one of the list's, it overtakes, and it is the earliest that does
+record FoundSubmit (o : Op) (submits : List Submit) (s : Submit) : Type 1 where
+  overtook : overtakes s o ≡ true
+  listed : (P : Submit → Type 0) → Every P submits → P s
+  earliest : Falling submits → Every (λ u. overtakes u o ≡ true → s .at ≤ u .at) submits
+
+module _ (o : Op) where
+  earlier-either : (a b : Option Submit) (s : Submit) → earlier a b ≡ some s → (a ≡ some s) ⊎ ((a ≡ none) × (b ≡ some s))
+  unfolding earlier
+  earlier-either none b s e = inr (refl, e)
+  earlier-either (some x) b s e = inl e
+
+  earlier-none : (a b : Option Submit) → earlier a b ≡ none → (a ≡ none) × (b ≡ none)
+  unfolding earlier
+  earlier-none none b e = (refl, e)
+  earlier-none (some x) b e = absurd (none-or-some (sym e))
+
+  submit-none : (submits : List Submit) → firstOvertaking o submits ≡ none → Every (λ u. overtakes u o ≡ false) submits
+  unfolding firstOvertaking
+  submit-none [] e = tt
+  submit-none (x ∷ submits) e =
+      let d = earlier-none (firstOvertaking o submits) (cond (overtakes x o) (some x) none) e in (
+        on (overtakes x o) (λ t. absurd (none-or-some (sym (rw t at (d .1))))) (λ f. f),
+        submit-none submits (d .0),
+      )
+
+  none-contests : (submits : List Submit) → Every (λ u. overtakes u o ≡ false) submits → contested o submits ≡ false
+  unfolding contested
+  none-contests [] h = refl
+  none-contests (x ∷ submits) h = ap (λ t. t || contested o submits) (h .0) ∙ none-contests submits (h .1)
+
+  submit-found : (submits : List Submit) (s : Submit) → firstOvertaking o submits ≡ some s → FoundSubmit o submits s
+  unfolding firstOvertaking
+  submit-found [] s e = absurd (none-or-some e)
+  submit-found (x ∷ submits) s e =
+      ⊎-elim
+      (λ older. let d = submit-found submits s older in record {
+        overtook = d .overtook;
+        listed = λ P h. d .listed P (h .1);
+        earliest = λ f. let l = d .listed (λ u. u .at < x .at) (f .0) in ((λ t. omega arith), d .earliest (f .1));
+      })
+      (λ here. on (overtakes x o)
+      (λ t. let same : x ≡ s = (cc (rw t at (here .1))) in subst (FoundSubmit o (x ∷ submits)) same (record {
+        overtook = t;
+        listed = λ P h. h .0;
+        earliest = λ f. ((λ z. omega arith), every (λ u n y. absurd (apart y n)) submits (submit-none submits (here .0)));
+      }))
+      (λ f. absurd (none-or-some (rw f at (here .1)))))
+      (earlier-either (firstOvertaking o submits) (cond (overtakes x o) (some x) none) s e)
+
+-- A deliver, answered 0, of a run whose steps all have their place: it took a submit, or it aborted an operation.
+
+record DeliverPlaced (w : Watch) (at i p : ℕ) : Type 0 where
+  submit : p ≡ 2 → Some (λ u. (u .member ≡ i) × (u .at ≡ at)) (w .submits)
+  verdict : p ≡ 5 → Some (λ o. (o .given .member ≡ i) × (o .verdictAt ≡ at)) (w .decided)
+
+placed-here : (w : Watch) (at : ℕ) (call : Call) (s : Seen) → (s .answer ≡ 0 → Placed w at call s) → (i p : ℕ)
+    → IsDeliver i p none (some (step call s)) → DeliverPlaced w at i p
+placed-here w at (begin j r t v) s a i p d = absurd d
+placed-here w at (deliver j) s a i p d =
+    let phase : s .phases j ≡ p = ap (s .phases) (d .0) ∙ d .2 in
+    let whose : j ≡ i = d .0 in
+    let here = a (d .1) in
+    record {
+      submit = λ e. rw (← whose) (here .1 (phase ∙ e));
+      verdict = λ e. rw (← whose) (here .2 (inr (phase ∙ e)));
+    }
+placed-here w at (crash j) s a i p d = absurd d
+
+no-step : (calls : List Call) (seen : List Seen) → stepAt calls seen 0 ≡ none
+unfolding stepAt
+no-step [] seen = refl
+no-step (call ∷ calls) [] = refl
+no-step (call ∷ calls) (s ∷ seen) = no-step calls seen
+
+deliver-placed : (w : Watch) (from : ℕ) (calls : List Call) (seen : List Seen) → AllPlaced w (from + 1) calls seen → (k i p : ℕ)
+    → IsDeliver i p none (stepAt calls seen k) → DeliverPlaced w (from + k) i p
+unfolding stepAt
+deliver-placed w from [] seen a k i p d = absurd d
+deliver-placed w from (call ∷ calls) [] a k i p d = absurd d
+deliver-placed w from (call ∷ calls) (s ∷ seen) a k i p d = on (eqb k 1)
+    (λ e. let one : k ≡ 1 = eqb-true k 1 e in rw one (placed-here w (from + 1) call s (a .0) i p (rw e at d)))
+    (λ e. on (eqb k 0)
+    (λ z. let none-left : k - 1 ≡ 0 = (let o = eqb-true k 0 z in omega arith) in
+    absurd (subst (IsDeliver i p none) (ap (stepAt calls seen) none-left ∙ no-step calls seen) (rw e at d)))
+    (λ z. let more : from + 1 + (k - 1) ≡ from + k = (let o = eqb-false k 0 z in omega arith) in
+    subst (λ at. DeliverPlaced w at i p) more (deliver-placed w (from + 1) calls seen (a .1) (k - 1) i p (rw e at d))))
+
+-- A step is followed by one phase.
+
+same-phase : (x : Option Step) (i p q : ℕ) → IsDeliver i p none x → IsDeliver i q none x → p ≡ q
+same-phase none i p q d e = absurd d
+same-phase (some (step (begin j r t v) s)) i p q d e = absurd d
+same-phase (some (step (deliver j) s)) i p q d e = sym (d .2) ∙ e .2
+same-phase (some (step (crash j) s)) i p q d e = absurd d
+
+five-aborts : (a : Bool) → _≡_ {A = ℕ} (cond a 4 5) 5 → a ≡ false
+five-aborts true e = absurd (omega arith)
+five-aborts false e = refl
+
+-- Both answers, of a watch whose every step has its place.
+module _ (calls : List Call) (seen : List Seen) (p : ℕ → ℕ) (w : Watch) (places : Places (stepAt calls seen) p w)
+    (marks : Marks (stepAt calls seen) p w) (placed : AllPlaced w 1 calls seen) (i k : ℕ) where
+  abbrev look : ℕ → Option Step
+  look = stepAt calls seen
+
+  placed-at : (at j q : ℕ) → IsDeliver j q none (look at) → DeliverPlaced w at j q
+  placed-at at j q d = subst (λ k. DeliverPlaced w k j q) (omega arith) (deliver-placed w 0 calls seen placed at j q d)
+
+  -- where no operation was found there is no verdict: it would be that of one which the watcher has
+  none-answered : abortedOp i k (w .decided) ≡ none → Answered look i k none
+  none-answered e submitAt at x =
+      let found = one-of (λ o. (o .given .member ≡ i) × (o .verdictAt ≡ at)) (w .decided) (placed-at at i 5 (x .verdict) .verdict refl) in
+      let o = found .one in
+      let whose = found .holds .0 in
+      let when = found .holds .1 in
+      let phase : ℕ = cond (o .accepted) 4 5 in
+      let d = found .listed (λ o. Decided look o × (o .verdictAt ≤ w .steps)) (places .decided) .0 in
+      let j = found .listed (λ o. Judged look (o .given .member) o) (marks .decided) in
+      let verdict : IsDeliver i phase none (look at) =
+      subst (λ m. IsDeliver m phase none (look at)) whose
+      (subst (λ v. IsDeliver (o .given .member) phase none (look v)) when (d .judged)) in
+      let ordinal : begunCount look i at ≡ o .ordinal =
+      subst (λ m. begunCount look m at ≡ o .ordinal) whose
+      (subst (λ v. begunCount look (o .given .member) v ≡ o .ordinal) when (j .verdict)) in
+      found .listed (λ o. o .given .member ≡ i → o .ordinal ≡ k → o .accepted ≡ false → ⊥) (op-none i k (w .decided) e)
+      whose (sym ordinal ∙ x .itsVerdict) (five-aborts (o .accepted) (same-phase (look at) i phase 5 verdict (x .verdict)))
+
+  -- The operation that was found.
+  module _ (o : Op) (f : FoundOp i k (w .decided) o) where
+    its : Judged look i o
+    its = subst (λ m. Judged look m o) (f .member) (f .listed (λ o. Judged look (o .given .member) o) (marks .decided))
+
+    was-aborted : Aborted look i k (o .submitAt) (o .verdictAt)
+    was-aborted =
+        let d = f .listed (λ o. Decided look o × (o .verdictAt ≤ w .steps)) (places .decided) .0 in
+        record {
+          submit = subst (λ m. IsDeliver m 2 none (look (o .submitAt))) (f .member) (d .submitted);
+          verdict = subst (λ m. IsDeliver m 5 none (look (o .verdictAt))) (f .member)
+              (subst (λ a. IsDeliver (o .given .member) (cond a 4 5) none (look (o .verdictAt))) (f .aborted) (d .judged));
+          itsSubmit = its .taken .ordinal ∙ f .ordinal;
+          itsVerdict = its .verdict ∙ f .ordinal;
+        }
+
+    -- a submit on its slot, taken in between, is one that overtakes it
+    overtakes-it : (at j : ℕ) → o .submitAt < at → at < o .verdictAt → TakesSubmit look at j (slotBegun look i (o .submitAt))
+        → OneOf (λ u. (u .at ≡ at) × (overtakes u o ≡ true)) (w .submits)
+    overtakes-it at j l m t =
+        let u = one-of (λ u. (u .member ≡ j) × (u .at ≡ at)) (w .submits) (placed-at at j 2 (t .0) .submit refl) in
+        let s = u .one in
+        let when = u .holds .1 in
+        let slot : slotBegun look j at ≡ s .slot =
+        subst (λ m. slotBegun look m at ≡ s .slot) (u .holds .0)
+        (subst (λ k. slotBegun look (s .member) k ≡ s .slot) when
+        (u .listed (λ s. TakesSubmit look (s .at) (s .member) (s .slot)) (marks .takes) .1)) in
+        record {
+          one = s;
+          holds = (when, both (eq-eqb (s .slot) (o .given .slot) (sym slot ∙ t .1 ∙ its .taken .slot))
+              (both (lt-ltb (o .submitAt) (s .at) (omega arith)) (lt-ltb (s .at) (o .verdictAt) (omega arith))));
+          listed = u .listed;
+        }
+
+    some-answered : (s : Submit) → FoundSubmit o (w .submits) s → Overtook look i k s
+    some-answered s g =
+        let within = ltb (o .submitAt) (s .at) && ltb (s .at) (o .verdictAt) in
+        let slot = eqb-true (s .slot) (o .given .slot) (first (eqb (s .slot) (o .given .slot)) within (g .overtook)) in
+        let between = second (eqb (s .slot) (o .given .slot)) within (g .overtook) in
+        let after = ltb-true (o .submitAt) (s .at) (first (ltb (o .submitAt) (s .at)) (ltb (s .at) (o .verdictAt)) between) in
+        let before = ltb-true (s .at) (o .verdictAt) (second (ltb (o .submitAt) (s .at)) (ltb (s .at) (o .verdictAt)) between) in
+        let t = g .listed (λ s. TakesSubmit look (s .at) (s .member) (s .slot)) (marks .takes) in
+        record {
+          submitAt = o .submitAt;
+          verdictAt = o .verdictAt;
+          aborted = was-aborted;
+          takes = (t .0, t .1 ∙ slot ∙ sym (its .taken .slot));
+          between = (after, before);
+          first = λ at j l m t. let u = overtakes-it at j l (omega arith) t in
+              let least = u .listed (λ u. overtakes u o ≡ true → s .at ≤ u .at) (g .earliest (marks .falling)) (u .holds .1) in
+              omega (arith, least, u .holds .0);
+        }
+
+  -- an aborted operation is contested, so that a submit is found
+  module _ (aborts : Every (λ o. o .accepted ≡ not (contested o (w .submits))) (w .decided)) where
+    submit-answered : (o : Op) → FoundOp i k (w .decided) o → (x : Option Submit) → firstOvertaking o (w .submits) ≡ x → Answered look i k x
+    submit-answered o f none e =
+        let a = f .listed (λ o. o .accepted ≡ not (contested o (w .submits))) aborts in
+        absurd (apart (a ∙ ap not (none-contests o (w .submits) (submit-none o (w .submits) e))) (f .aborted))
+    submit-answered o f (some s) e = some-answered o f s (submit-found o (w .submits) s e)
+
+    op-answered : (x : Option Op) → abortedOp i k (w .decided) ≡ x → Answered look i k (overtaking x (w .submits))
+    unfolding overtaking
+    op-answered none e = none-answered e
+    op-answered (some o) e = submit-answered o (op-found i k (w .decided) o e) (firstOvertaking o (w .submits)) refl
+
+-- Of every run of which demand 3 holds.
+pub overtaker-answered : (kind : Kind) (n : ℕ) (calls : List Call) (boards : List Board) (seen : List Seen) → Demand3 kind n calls boards seen
+    → (i k : ℕ) → Answered (stepAt calls seen) i k (overtakerIn (watched calls seen) i k)
+unfolding watched nothingYet overtakerIn refOpened refIdle
+overtaker-answered kind n calls boards seen d i k =
+    let look = stepAt calls seen in
+    let moves : RunMoves (λ i. 0) calls seen = subst (RunMoves (λ i. 0) calls) (sym (d .asReference)) (run-moves kind n refOpened calls) in
+    let ahead : Ahead look 0 calls seen = λ k z. ap look (omega arith) in
+    let l = run-left look (Marks look) (λ p q w x. marks-after) (λ i. 0) nothingYet (places-nothing look) (marks-nothing look)
+    calls seen ahead moves in
+    let w = watched calls seen in
+    op-answered calls seen (l .phases) w (l .places) (l .kept) (d .positions .complete) i k (d .aborts) (abortedOp i k (w .decided)) refl

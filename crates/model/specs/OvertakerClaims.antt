@@ -1,0 +1,46 @@
+-- What is claimed of an overtaker that is named, and of none: about the steps of the run alone, whatever the watcher's own definitions are.
+use Prim.Native.Nat.{ℕ, zero, suc, _<_}
+use mathlib.Core.Path.{_≡_}
+use mathlib.Core.Bool.{cond, _&&_}
+use mathlib.Core.Option.{Option, none, some}
+use lib.Dec.{eqb}
+use Rattle.model.specs.Runs.{begin, deliver, crash, Step, step}
+use Rattle.model.specs.History.{Submit}
+use Rattle.model.specs.Positions.{IsDeliver, begunCount}
+
+-- the slot of the operation that member i began last, up to step k: 0 where it has begun none
+
+unfoldable pub slotAfter : ℕ → Option Step → ℕ → ℕ
+slotAfter i none before = before
+slotAfter i (some (step (begin j r t v) s)) before = cond (eqb j i && eqb (s .answer) 0) r before
+slotAfter i (some (step (deliver j) s)) before = before
+slotAfter i (some (step (crash j) s)) before = before
+
+unfoldable pub slotBegun : (ℕ → Option Step) → ℕ → ℕ → ℕ
+slotBegun at i zero = 0
+slotBegun at i (suc k) = slotAfter i (at (suc k)) (slotBegun at i k)
+
+-- step k is a deliver at which the host took a submit of member j on slot r
+abbrev pub TakesSubmit : (ℕ → Option Step) → ℕ → ℕ → ℕ → Type 0
+TakesSubmit at k j r = IsDeliver j 2 none (at k) × (slotBegun at j k ≡ r)
+
+-- Member i's k-th operation was aborted: its submit and its commit were taken at these steps, when it had begun k.
+pub record Aborted (at : ℕ → Option Step) (i k submitAt verdictAt : ℕ) : Type 0 where
+  pub submit : IsDeliver i 2 none (at submitAt)
+  pub verdict : IsDeliver i 5 none (at verdictAt)
+  pub itsSubmit : begunCount at i submitAt ≡ k
+  pub itsVerdict : begunCount at i verdictAt ≡ k
+
+-- the step is a deliver of that member at which the host took a submit on the operation's slot in between, "with none earlier"
+pub record Overtook (at : ℕ → Option Step) (i k : ℕ) (s : Submit) : Type 0 where
+  pub submitAt : ℕ
+  pub verdictAt : ℕ
+  pub aborted : Aborted at i k submitAt verdictAt
+  pub takes : TakesSubmit at (s .at) (s .member) (slotBegun at i submitAt)
+  pub between : (submitAt < s .at) × (s .at < verdictAt)
+  pub first : (step j : ℕ) → submitAt < step → step < s .at → TakesSubmit at step j (slotBegun at i submitAt) → ⊥
+
+-- Both answers: an operation that was aborted always has one.
+abbrev pub Answered : (ℕ → Option Step) → ℕ → ℕ → Option Submit → Type 0
+Answered at i k (some s) = Overtook at i k s
+Answered at i k none = (submitAt verdictAt : ℕ) → Aborted at i k submitAt verdictAt → ⊥
