@@ -7,7 +7,7 @@ use mathlib.Core.Option.{Option, none, some}
 use native.Mathlib.Numerals.{add-one}
 use native.Mathlib.Omega.{arith}
 use lib.Dec.{eqb, ltb}
-use borrow.Author.Tests.{eq-eqb, ltb-true, ltb-false}
+use borrow.Author.Tests.{eq-eqb, eqb-false, ltb-true, ltb-false}
 use Rattle.lists.proofs.Functions.{on, fails}
 use Rattle.model.specs.Records.{Value}
 use Rattle.model.specs.Runs.{Call, begin, deliver, crash, Seen, Step, step}
@@ -44,6 +44,12 @@ unfolding beganBy
 refused-counts (begin i r t v) s e k = fails (eqb i k) e
 refused-counts (deliver i) s e k = refl
 refused-counts (crash i) s e k = refl
+
+pub refused-delivers : (call : Call) (s : Seen) → eqb (s .answer) 0 ≡ false → (i p : ℕ) (v : Option Value)
+    → IsDeliver i p v (some (step call s)) → ⊥
+refused-delivers (begin j r t w) s e i p v d = d
+refused-delivers (deliver j) s e i p v d = eqb-false (s .answer) 0 e (d .1)
+refused-delivers (crash j) s e i p v d = d
 
 -- One begin for one ordinal.
 

@@ -45,11 +45,11 @@ none-or-some : {A : Type 0} {x : A} → _≡_ {A = Option A} none (some x) → �
 none-or-some e = let z : _≡_ {A = ℕ} 0 1 = cc in omega arith
 
 -- the operation that was found is one of the list's, and what holds of each holds of it
-record FoundOp (i k : ℕ) (ops : List Op) (o : Op) : Type 1 where
-  member : o .given .member ≡ i
-  ordinal : o .ordinal ≡ k
-  aborted : o .accepted ≡ false
-  listed : (P : Op → Type 0) → Every P ops → P o
+pub record FoundOp (i k : ℕ) (ops : List Op) (o : Op) : Type 1 where
+  pub member : o .given .member ≡ i
+  pub ordinal : o .ordinal ≡ k
+  pub aborted : o .accepted ≡ false
+  pub listed : (P : Op → Type 0) → Every P ops → P o
 
 module _ (i k : ℕ) where
   abbrev fits : Op → Bool
@@ -59,7 +59,7 @@ module _ (i k : ℕ) where
   not-true true e = sym e
   not-true false e = refl
 
-  op-found : (ops : List Op) (o : Op) → abortedOp i k ops ≡ some o → FoundOp i k ops o
+  pub op-found : (ops : List Op) (o : Op) → abortedOp i k ops ≡ some o → FoundOp i k ops o
   unfolding abortedOp
   op-found [] o e = absurd (none-or-some e)
   op-found (x ∷ ops) o e = on (fits x)

@@ -94,7 +94,7 @@ module _ {look : ℕ → Option Step} {p : ℕ → ℕ} {w : Watch} (quiet : (k 
 -- Each move keeps it.
 pub marks-after : {look : ℕ → Option Step} {p q : ℕ → ℕ} {w x : Watch} → Moved look p w q x → Places look p w → Marks look p w → Marks look q x
 unfolding begunOp submittedOp submitOf decidedOp endedOp
-marks-after {w = w} (stays quiet) h t = record {
+marks-after {w = w} (stays quiet d) h t = record {
   running = same-slot quiet h t;
   submitted = t .submitted;
   decided = t .decided;

@@ -1,7 +1,7 @@
 -- The watcher's positions are the steps at which the things happened, and none is left out: for every run whose phases move as Phases.antt
 -- says. Each step of a run is one of the moves and has its place, which later moves keep.
 use Prim.Native.Nat.{ℕ, _+_, _-_, _≤_, _<_}
-use mathlib.Core.Path.{_≡_, refl, sym, ap, _∙_}
+use mathlib.Core.Path.{_≡_, refl, sym, ap, subst, _∙_}
 use mathlib.Core.Bool.{cond}
 use mathlib.Core.List.{List, [], _∷_}
 use mathlib.Core.Logic.{_⊎_, inl, inr, ⊎-elim}
@@ -16,13 +16,13 @@ use Rattle.model.specs.Records.{Value}
 use Rattle.model.specs.Runs.{Call, begin, deliver, crash, Seen, Step, step}
 use Rattle.model.specs.History.{Op, Watch, noOp, begunOp, submittedOp, submitOf, decidedOp, watchDeliver, watchCall, watchStep}
 use Rattle.model.specs.History.{watchFrom, nothingYet, watched}
-use Rattle.model.specs.Positions.{stepAt, beganBy, begunCount, Placed, AllPlaced, Positions}
+use Rattle.model.specs.Positions.{stepAt, IsDeliver, beganBy, begunCount, Placed, AllPlaced, Positions}
 use Rattle.model.proofs.HistoryLists.{every}
 use Rattle.model.proofs.HistorySteps.{watch-verdict}
 use Rattle.model.proofs.Phases.{Next, submitted, answered, judged, ended as completes, Moves, StepMoves, RunMoves, verdict-high}
 use Rattle.model.proofs.PositionsInvariant.{nextOp, Moved, stays, begins, submits, replies, judges, ends, moved-steps, Places}
 use Rattle.model.proofs.PositionsInvariant.{Found, runs, decided, PlacedIn, Taken}
-use Rattle.model.proofs.Ordinals.{refused-counts}
+use Rattle.model.proofs.Ordinals.{refused-counts, refused-delivers}
 use Rattle.model.proofs.PositionsTurns.{Turns, turns-after}
 use Rattle.model.proofs.PositionsSteps.{ended-found, placed-after, places-after, submits-after}
 
@@ -101,14 +101,15 @@ module _ (look : ℕ → Option Step) (p : ℕ → ℕ) (w : Watch) (h : Places 
   unfolding watchCall beganBy
   taken-stepped (begin i r t v) here zero m = begin-stepped i r t v here zero (m .isIdle) (m .phases)
   taken-stepped (deliver i) here zero m = deliver-stepped i here zero (m .to) (m .next) (m .phases)
-  taken-stepped (crash i) here zero m = record { moved = rw m (stays (λ k. rw here refl)); placed = λ z. tt }
+  taken-stepped (crash i) here zero m = record { moved = rw m (stays (λ k. rw here refl) (λ j q v d. subst (IsDeliver j q v) here d)); placed = λ z. tt }
 
   stepped : (call : Call) → look (w .steps + 1) ≡ some (step call s) → StepMoves p call s → Stepped look p w call s (watchStep w call s)
   unfolding watchStep
   stepped call here m = split (Stepped look p w call s) (eqb (s .answer) 0)
       (λ e. let zero = eqb-true (s .answer) 0 e in taken-stepped call here zero (m .taken zero))
       (λ e. record {
-        moved = rw (m .refused e) (stays (λ k. rw here (refused-counts call s e k)));
+        moved = rw (m .refused e) (stays (λ k. rw here (refused-counts call s e k))
+            (λ j q v d. refused-delivers call s e j q v (subst (IsDeliver j q v) here d)));
         placed = λ z. absurd (eqb-false (s .answer) 0 e z);
       })
 
@@ -138,18 +139,37 @@ pub record Left (look : ℕ → Option Step) (Q : (ℕ → ℕ) → Watch → Ty
   pub places : Places look phases x
   pub kept : Q phases x
 
+-- what is made of each step, one after the other
+unfoldable pub beside : {T : Type 0} → (T → Call → Seen → T) → T → List Call → List Seen → T
+beside next t [] seen = t
+beside next t (call ∷ calls) [] = t
+beside next t (call ∷ calls) (s ∷ seen) = beside next (next t call s) calls seen
+
 module _ (look : ℕ → Option Step) where
+  -- Q is of what is made beside the watch, too
+  pub run-beside : {T : Type 0} (next : T → Call → Seen → T) (Q : (ℕ → ℕ) → Watch → T → Type 0)
+      → ((p q : ℕ → ℕ) (w x : Watch) (t : T) (call : Call) (s : Seen) → look (w .steps + 1) ≡ some (step call s)
+      → Moved look p w q x → Places look p w → Q p w t → Q q x (next t call s))
+      → (p : ℕ → ℕ) (w : Watch) (t : T) → Places look p w → Q p w t → (calls : List Call) (seen : List Seen)
+      → Ahead look (w .steps) calls seen → RunMoves p calls seen
+      → Left look (λ q x. Q q x (beside next t calls seen)) (watchFrom w calls seen)
+  unfolding watchFrom beside
+  run-beside next Q keep p w t h x [] seen a m = record { phases = p; places = h; kept = x }
+  run-beside next Q keep p w t h x (call ∷ calls) [] a m = absurd m
+  run-beside next Q keep p w t h x (call ∷ calls) (s ∷ seen) a m =
+      let here = ahead-here look (w .steps) call calls s seen a in
+      let moved = stepped look p w h s call here (m .0) .moved in
+      let y = watchStep w call s in
+      run-beside next Q keep (s .phases) y (next t call s) (places-after moved h)
+      (keep p (s .phases) w y t call s here moved h x) calls seen
+      (ahead-next look (w .steps) call calls s seen (y .steps) (moved-steps moved) a) (m .1)
+
   pub run-left : (Q : (ℕ → ℕ) → Watch → Type 0)
       → ((p q : ℕ → ℕ) (w x : Watch) → Moved look p w q x → Places look p w → Q p w → Q q x)
       → (p : ℕ → ℕ) (w : Watch) → Places look p w → Q p w → (calls : List Call) (seen : List Seen)
       → Ahead look (w .steps) calls seen → RunMoves p calls seen → Left look Q (watchFrom w calls seen)
-  unfolding watchFrom
-  run-left Q keep p w h x [] seen a m = record { phases = p; places = h; kept = x }
-  run-left Q keep p w h x (call ∷ calls) [] a m = absurd m
-  run-left Q keep p w h x (call ∷ calls) (s ∷ seen) a m =
-      let next = stepped look p w h s call (ahead-here look (w .steps) call calls s seen a) (m .0) .moved in
-      run-left Q keep (s .phases) (watchStep w call s) (places-after next h) (keep p (s .phases) w (watchStep w call s) next h x) calls seen
-      (ahead-next look (w .steps) call calls s seen (watchStep w call s .steps) (moved-steps next) a) (m .1)
+  run-left Q keep p w h x calls seen a m =
+      run-beside {T = Unit {0}} (λ t call s. t) (λ q y t. Q q y) (λ p q w x t call s here. keep p q w x) p w tt h x calls seen a m
 
   found-known : {low : ℕ} {P : Op → Type 0} {i phase : ℕ} {o : Op} {ops : List Op} → Found low P i phase o ops
       → P o ⊎ Some (λ x. (x .given .member ≡ i) × P x) ops

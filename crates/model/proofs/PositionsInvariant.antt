@@ -29,7 +29,9 @@ abbrev pub nextOp : Watch → ℕ → ℕ → ℕ → Value → Op
 nextOp w i r t v = begunOp (w .steps + 1) i r t v (w .running i)
 
 pub data Moved (look : ℕ → Option Step) (p : ℕ → ℕ) (w : Watch) : (ℕ → ℕ) → Watch → Type 0 where
-  stays : ((k : ℕ) → beganBy k (look (w .steps + 1)) ≡ false) → Moved look p w p (later w)
+  -- no begin and no deliver was answered 0
+  stays : ((k : ℕ) → beganBy k (look (w .steps + 1)) ≡ false) → ((i q : ℕ) (v : Option Value) → IsDeliver i q v (look (w .steps + 1)) → ⊥)
+      → Moved look p w p (later w)
   begins : (i r t : ℕ) (v : Value) → p i ≡ 0 → IsBegin (nextOp w i r t v .given) (look (w .steps + 1))
       → Moved look p w (put p i 1) (withRunning w i (nextOp w i r t v) (w .submits))
   submits : (i : ℕ) → p i ≡ 1 → IsDeliver i 2 none (look (w .steps + 1))
@@ -42,7 +44,7 @@ pub data Moved (look : ℕ → Option Step) (p : ℕ → ℕ) (w : Watch) : (ℕ
       → Moved look p w (put p i 0) (withDecided w (ended i (w .steps + 1) v (w .decided)))
 
 pub moved-steps : {look : ℕ → Option Step} {p q : ℕ → ℕ} {w x : Watch} → Moved look p w q x → x .steps ≡ w .steps + 1
-moved-steps (stays d) = refl
+moved-steps (stays q d) = refl
 moved-steps (begins i r t v z b) = refl
 moved-steps (submits i e d) = refl
 moved-steps (replies i v e d) = refl

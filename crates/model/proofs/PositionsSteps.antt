@@ -169,7 +169,7 @@ module _ (look : ℕ → Option Step) (p : ℕ → ℕ) (w : Watch) (h : Places 
 
 pub places-after : {look : ℕ → Option Step} {p q : ℕ → ℕ} {w x : Watch} → Moved look p w q x → Places look p w → Places look q x
 unfolding decidedOp endedOp
-places-after {look} {p} {w = w} (stays q) h = record {
+places-after {look} {p} {w = w} (stays q d) h = record {
   running = λ k. later-at look p w h k (q k);
   decided = decided-later look (w .steps) (w .decided) (h .decided);
   waiting = h .waiting;
@@ -228,7 +228,7 @@ module _ {low : ℕ} {P : Op → Type 0} {i phase : ℕ} {o : Op} {ops : List Op
 pub found-after : {low : ℕ} {P : Op → Type 0} → Stable low P → {look : ℕ → Option Step} {p q : ℕ → ℕ} {w x : Watch} → Moved look p w q x
     → Places look p w → (k : ℕ) → FoundIn low P p w k → FoundIn low P q x k
 unfolding decidedOp endedOp
-found-after st (stays q) h = λ k f. f
+found-after st (stays q d) h = λ k f. f
 found-after {low} {P} st {p = p} {w = w} (begins i r t v z b) h =
     put-both (λ k ph o. FoundIn low P p w k → Found low P k ph o (w .decided)) p (w .running) i 1 (nextOp w i r t v)
     (found-on 1 (nextOp w i r t v) (w .decided) (λ l m y. absurd (omega (arith, st .starts))) (λ s. s))
@@ -299,7 +299,7 @@ end-stable k p = record {
 
 more-submits : (P : Submit → Type 0) {look : ℕ → Option Step} {p q : ℕ → ℕ} {w x : Watch} → Moved look p w q x
     → Some P (w .submits) → Some P (x .submits)
-more-submits P (stays q) s = s
+more-submits P (stays q d) s = s
 more-submits P (begins i r t v z b) s = s
 more-submits P (submits i e d) s = inr s
 more-submits P (replies i u e d) s = s
@@ -340,7 +340,7 @@ now-taken p w i s =
 
 pub submits-after : {look : ℕ → Option Step} {p q : ℕ → ℕ} {w x : Watch} → Moved look p w q x → Places look p w
     → Every (Taken p w) (w .submits) → Every (Taken q x) (x .submits)
-submits-after {w = w} (stays q) h s = all-after (stays q) h (w .submits) s
+submits-after {w = w} (stays q d) h s = all-after (stays q d) h (w .submits) s
 submits-after {w = w} (begins i r t v z b) h s = all-after (begins i r t v z b) h (w .submits) s
 submits-after {p = p} {w = w} (submits i e d) h s =
     (now-taken p w i (submitOf (w .steps + 1) i (w .running i) ∷ w .submits), all-after (submits i e d) h (w .submits) s)

@@ -70,7 +70,7 @@ gone-later i before = every (λ o g m. (g m .0, omega (arith, g m .1)))
 
 pub turns-after : {look : ℕ → Option Step} {p q : ℕ → ℕ} {w x : Watch} → Moved look p w q x → Places look p w → Turns p w → Turns q x
 unfolding begunOp submittedOp decidedOp
-turns-after {w = w} (stays q) h t = record {
+turns-after {w = w} (stays q d) h t = record {
   inTurn = t .inTurn;
   running = t .running;
   resting = λ k e. gone-later k (w .steps + 1) (w .decided) (t .resting k e);

@@ -100,12 +100,9 @@ bothNumbers none y = none
 bothNumbers (some x) none = none
 bothNumbers (some x) (some y) = some (record { member = x; ordinal = y })
 
--- "arguments that are not two numbers as a script writes them"
-unfoldable pub askedBy : List (List ℕ) → Option Asked
-askedBy [] = none
-askedBy (a ∷ []) = none
-askedBy (a ∷ b ∷ []) = bothNumbers (numberOf a) (numberOf b)
-askedBy (a ∷ b ∷ c ∷ more) = none
+-- "arguments that are not two numbers as a script writes them": how many there are, and the bytes of the first two
+unfoldable pub askedBy : ℕ → List ℕ → List ℕ → Option Asked
+askedBy count first second = cond (eqb count 2) (bothNumbers (numberOf first) (numberOf second)) none
 
 unfoldable pub overtakerFor : Option Asked → List ℕ → Overtaker
 overtakerFor none input = refuses 17
@@ -117,5 +114,5 @@ printedOvertaker (refuses number) = field (some number) lineFeed
 printedOvertaker (names member step) = field (some member) space ++ field (some step) lineFeed
 
 -- the program: what it prints of its arguments and of what it reads
-unfoldable pub overtakerOutput : List (List ℕ) → List ℕ → List ℕ
-overtakerOutput arguments input = printedOvertaker (overtakerFor (askedBy arguments) input)
+unfoldable pub overtakerOutput : ℕ → List ℕ → List ℕ → List ℕ → List ℕ
+overtakerOutput count first second input = printedOvertaker (overtakerFor (askedBy count first second) input)

@@ -1,5 +1,6 @@
 -- Laws of whole lines: each line's text reads back as it, no other text does, and what is longer than `longestLine` is malformed.
 use Prim.Native.Nat.{ℕ, _+_, _-_, _*_, _≤_, _<_}
+use native.Mathlib.Numerals.{add-one}
 use native.Mathlib.Omega.{arith}
 use mathlib.Core.Path.{_≡_, refl, sym, ap, _∙_}
 use mathlib.Core.Logic.{_⊎_, inl, inr, ⊎-elim}
@@ -202,3 +203,37 @@ lines-step (b ∷ []) h = on (eqb b lineFeed) (λ p. rw p) (λ p. rw p)
 lines-step (b ∷ (a ∷ l)) h = on (eqb b lineFeed)
     (λ p. rw p)
     (λ p. rw (p, lines-step (a ∷ l) (omega arith)))
+
+-- The lines of a text, one after the other: the first is what stands before the first line feed, and the others stand behind that.
+
+pub before-within : (b : ℕ) (l : List ℕ) → length (before b l) ≤ length l
+unfolding before
+before-within b [] = omega arith
+before-within b (a ∷ l) = on (eqb a b) (λ p. rw p (omega arith)) (λ p. rw p (omega (arith, before-within b l)))
+
+pub take-before : (b : ℕ) (l : List ℕ) → take (length (before b l)) l ≡ before b l
+unfolding before
+take-before b [] = refl
+take-before b (a ∷ l) = on (eqb a b) (λ p. rw p) (λ p. rw p (ap (λ m. a ∷ m) (take-before b l)))
+
+pub drop-beyond : (b : ℕ) (l : List ℕ) → drop (length (before b l) + 1) l ≡ beyond b l
+unfolding before beyond
+drop-beyond b [] = refl
+drop-beyond b (a ∷ l) = on (eqb a b)
+    (λ p. rw p)
+    (λ p. rw (p, add-one) (ap (λ k. drop k l) (sym (add-one (length (before b l)))) ∙ drop-beyond b l))
+
+lines-split : (b : ℕ) (l : List ℕ) → linesOf (b ∷ l) ≡ before lineFeed (b ∷ l) ∷ linesOf (beyond lineFeed (b ∷ l))
+unfolding linesOf withByte before beyond
+lines-split b [] = on (eqb b lineFeed) (λ p. rw p) (λ p. rw p)
+lines-split b (a ∷ l) = on (eqb b lineFeed) (λ p. rw p) (λ p. rw p (ap (withByte b) (lines-split a l)))
+
+pub first-line : (l : List ℕ) → 0 < length l
+    → linesOf l ≡ take (length (before lineFeed l)) l ∷ linesOf (drop (length (before lineFeed l) + 1) l)
+first-line [] h = absurd (omega arith)
+first-line (b ∷ l) h = rw (take-before, drop-beyond) (lines-split b l)
+
+pub no-line : (l : List ℕ) → length l ≤ 0 → linesOf l ≡ []
+unfolding linesOf
+no-line [] h = refl
+no-line (b ∷ l) h = absurd (omega arith)

@@ -1,6 +1,7 @@
 // The board program's lines, read from and printed to slices of bytes.
 ghost use mathlib.Core.Path.{_≡_};
-ghost use Rattle.model.specs.Script.{numberOf, before, beyond, space, lineOf, firstOf};
+ghost use lib.ListN.{length};
+ghost use Rattle.model.specs.Script.{numberOf, before, beyond, space, lineFeed, lineOf, firstOf};
 ghost use Rattle.script.specs.Meaning.{heldNumber, heldLine, heldOne, heldTwo};
 
 mod scan;
@@ -149,4 +150,11 @@ pub fn parse_members(t: &[u8]) -> Number
         return parse_number(&t[8..]);
     }
     Number::NONE
+}
+
+// How long the first line is, without its line feed.
+pub fn line_length(t: &[u8]) -> usize
+    ensures { λ r. ⌜ r ≡ length (before lineFeed (now (t .entry))) ⌝ }
+{
+    scan::find(t, b'\n')
 }

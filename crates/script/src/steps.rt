@@ -58,7 +58,7 @@ fn print_bytes(out: &mut [u8], at: usize, text: &[u8]) -> usize
 }
 
 // A number, or `-` where there is none, and the byte behind it.
-fn print_field(out: &mut [u8], at: usize, has: bool, x: u32, end: u8) -> usize
+pub fn print_field(out: &mut [u8], at: usize, has: bool, x: u32, end: u8) -> usize
     requires { ⌜ at + length (field (given has x) end) ≤ length (now out) ⌝ }
     ensures { λ r. ⌜ Printed (now (out .entry)) (now (out .exit)) at (field (given has x) end) r ⌝ }
 {

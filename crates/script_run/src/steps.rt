@@ -29,6 +29,8 @@ use script::steps::print_board;
 use script::steps::print_line;
 use script::steps::print_refused;
 
+pub use crate::lines::run_line;
+
 // No line ended among the bytes taken.
 fn none_ended(progress: Progress, taken: usize) -> Fed
     ensures { λ r. ⌜ (r .progress ≡ progress) × ((r .taken ≡ taken) × (EventsHeld (r .event) [])) ⌝ }

@@ -1,0 +1,54 @@
+// The lines of a script behind the first, from a place on: whether all have the form of a step, and one pass over them as steps.
+ghost use mathlib.Core.Path.{_≡_};
+ghost use Prim.Native.Nat.{_≤_};
+ghost use lib.ListN.{length, drop};
+ghost use Rattle.model.specs.Overtaker.{mostBytes, wellFormed};
+ghost use Rattle.model.specs.Script.{linesOf};
+ghost use Rattle.script_run.specs.Meaning.{Whole};
+ghost use Rattle.overtaker.specs.Search.{searchStart, linesSearched};
+use crate::Overtaker;
+use crate::search::Search;
+use script::Line;
+use script::line_length;
+use script::parse_line;
+use script_run::steps::run_line;
+
+pub fn well_formed(script: &[u8], from: usize) -> bool
+    requires { ⌜ length (now script) ≤ mostBytes ⌝ }
+    ensures { λ r. ⌜ r ≡ wellFormed (linesOf (drop from (now (script .entry)))) ⌝ }
+{
+    let mut at = from;
+    while at < script.len() {
+        let end = at + line_length(&script[at..]);
+        let line = parse_line(&script[at..end]);
+        if line.kind == Line::MALFORMED {
+            return false;
+        }
+        at = end + 1;
+    }
+    true
+}
+
+pub fn search_lines(
+    table: &mut [u32],
+    script: &[u8],
+    from: usize,
+    member: u32,
+    ordinal: u32,
+) -> Overtaker
+    requires { ⌜ (Whole (now table)) × (length (now script) ≤ mostBytes) ⌝ }
+    ensures { λ r. ⌜ r ≡ linesSearched member ordinal (now (table .entry)) searchStart (linesOf (drop from (now (script .entry)))) ⌝ }
+{
+    let mut search = Search::start();
+    let mut at = from;
+    while at < script.len() {
+        let end = at + line_length(&script[at..]);
+        let done = run_line(table, &script[at..end]);
+        if done.line.kind == Line::MALFORMED {
+            return Overtaker::refused(17);
+        }
+        search = search.step(done, member, ordinal);
+        at = end + 1;
+    }
+    search.answer()
+}
