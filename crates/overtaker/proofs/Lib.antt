@@ -1,2 +1,7 @@
+pub mod Slots
+pub mod Tests
+pub mod NextLine
+pub mod LineTaken
 pub mod Stages
 pub mod Searched
+pub mod Answers

@@ -1,8 +1,10 @@
 -- How the code holds what the definitions speak of, and what its functions require of each other.
-use Prim.Native.Nat.{ℕ}
+use Prim.Native.Nat.{ℕ, _≤_, _<_}
 use mathlib.Core.Path.{_≡_}
 use mathlib.Core.Bool.{true, false}
+use mathlib.Core.List.{List}
 use mathlib.Core.Option.{Option, none, some}
+use lib.ListN.{length, take}
 use Rattle.lists.specs.Functions.{Within}
 use Rattle.model.specs.Overtaker.{Overtaker, refuses, names, Asked}
 use Rattle.script_run.specs.declared.Done.{Done}
@@ -25,3 +27,13 @@ Made d = d .outcome .number ≡ 0 → Within 12 (d .line .member)
 -- two numbers of ten digits, and a byte behind each
 abbrev pub longestAnswer : ℕ
 longestAnswer = 22
+
+-- a refusal has a number, so that the code can tell it
+abbrev pub Numbered : Overtaker → Type 0
+Numbered (refuses number) = 0 < number
+Numbered (names member step) = Unit {0}
+
+-- the text stands at the front of the output, and ends at a place within it
+pub record Front (text : List ℕ) (end : ℕ) (out : List ℕ) : Type 0 where
+  pub within : end ≤ length out
+  pub printed : take end out ≡ text

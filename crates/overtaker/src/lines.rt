@@ -2,12 +2,16 @@
 ghost use mathlib.Core.Path.{_≡_};
 ghost use Prim.Native.Nat.{_≤_};
 ghost use lib.ListN.{length, drop};
-ghost use Rattle.model.specs.Overtaker.{mostBytes, wellFormed};
+ghost use Rattle.lists.specs.Functions.{Within};
+ghost use Rattle.model.specs.Overtaker.{mostBytes, wellFormed, linesOvertaker};
 ghost use Rattle.model.specs.Script.{linesOf};
+ghost use Rattle.model.specs.Table.{tableSize};
 ghost use Rattle.script_run.specs.Meaning.{Whole};
+ghost use Rattle.overtaker.specs.Meaning.{heldOvertaker};
 ghost use Rattle.overtaker.specs.Search.{searchStart, linesSearched};
 use crate::Overtaker;
 use crate::search::Search;
+use board::open;
 use script::Line;
 use script::line_length;
 use script::parse_line;
@@ -51,4 +55,20 @@ pub fn search_lines(
         at = end + 1;
     }
     search.answer()
+}
+
+// The same on a board of n members that is opened in the table.
+pub fn search_board(
+    table: &mut [u32],
+    n: u32,
+    script: &[u8],
+    from: usize,
+    member: u32,
+    ordinal: u32,
+) -> Overtaker
+    requires { ⌜ (Within 12 n) × ((length (now table) ≡ tableSize n) × (length (now script) ≤ mostBytes)) ⌝ }
+    ensures { λ r. ⌜ r ≡ heldOvertaker (linesOvertaker n (linesOf (drop from (now (script .entry)))) member ordinal) ⌝ }
+{
+    open(table, n);
+    search_lines(table, script, from, member, ordinal)
 }

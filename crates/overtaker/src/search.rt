@@ -112,7 +112,7 @@ impl Search {
         if kind == Line::READ {
             return self.begin(member, by, done.line.argument);
         }
-        if kind == Line::CRASH {
+        if kind != Line::DELIVER {
             return self;
         }
         if phase == 2 {

@@ -2,18 +2,17 @@
 ghost use mathlib.Core.Path.{_≡_};
 ghost use mathlib.Core.Option.{Option};
 ghost use Prim.Native.Nat.{_≤_};
-ghost use lib.ListN.{length, take, drop};
-ghost use Rattle.lists.specs.Functions.{Within};
+ghost use lib.ListN.{length, drop};
 ghost use Rattle.model.specs.Script.{linesOf};
-ghost use Rattle.model.specs.Overtaker.{mostBytes, overtaker, linesOvertaker, Asked as Operation, overtakerFor, printedOvertaker};
+ghost use Rattle.model.specs.Overtaker.{Overtaker as Answer, mostBytes, linesOvertaker, overtaker, Asked as Operation, overtakerFor};
+ghost use Rattle.model.specs.Overtaker.{printedOvertaker};
 ghost use Rattle.script_run.specs.Meaning.{mostWords};
-ghost use Rattle.overtaker.specs.Meaning.{heldOvertaker, heldAsked, longestAnswer};
+ghost use Rattle.overtaker.specs.Meaning.{heldOvertaker, heldAsked, longestAnswer, Numbered, Front};
 use crate::Asked;
 use crate::MOST_BYTES;
 use crate::Overtaker;
-use crate::lines::search_lines;
+use crate::lines::search_board;
 use crate::lines::well_formed;
-use board::open;
 use rules::MOST_MEMBERS;
 use rules::is_numbered;
 use script::line_length;
@@ -35,8 +34,7 @@ fn find_behind(
 {
     if is_numbered(n, MOST_MEMBERS) {
         let size = table_size(n as usize);
-        open(&mut table[..size], n);
-        return search_lines(&mut table[..size], script, from, member, ordinal);
+        return search_board(&mut table[..size], n, script, from, member, ordinal);
     }
     if well_formed(script, from) {
         return Overtaker::refused(1);
@@ -74,9 +72,10 @@ pub fn find_asked(script: &[u8], table: &mut [u32], asked: Asked) -> Overtaker
     find_on(script, table, asked.member, asked.ordinal)
 }
 
-// The line printed of an answer.
+// The line printed of an answer, at the front of the output.
 fn print_answer(out: &mut [u8], found: Overtaker) -> usize
     requires { ⌜ longestAnswer ≤ length (now out) ⌝ }
+    ensures { λ r. ⌜ ((x : Answer) → Numbered x → found ≡ heldOvertaker x → Front (printedOvertaker x) r (now (out .exit))) ⌝ }
 {
     let number = found.number;
     if number != 0 {
@@ -84,4 +83,13 @@ fn print_answer(out: &mut [u8], found: Overtaker) -> usize
     }
     let next = print_field(out, 0, true, found.member, b' ');
     print_field(out, next, true, found.step, b'\n')
+}
+
+// What the program prints of what it read.
+pub fn answer(script: &[u8], table: &mut [u32], asked: Asked, out: &mut [u8]) -> usize
+    requires { ⌜ (length (now table) ≡ mostWords) × (longestAnswer ≤ length (now out)) ⌝ }
+    ensures { λ r. ⌜ ((a : Option Operation) → asked ≡ heldAsked a
+        → Front (printedOvertaker (overtakerFor a (now (script .entry)))) r (now (out .exit))) ⌝ }
+{
+    print_answer(out, find_asked(script, table, asked))
 }

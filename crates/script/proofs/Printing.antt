@@ -122,6 +122,9 @@ unfolding orDash
 dash-short false x h = omega arith
 dash-short true x h = length-ten x h
 
+pub field-short : (has : Bool) (x end : ℕ) → x < 4294967296 → length (field (given has x) end) ≤ 11
+field-short has x end h = simp length-append (omega (arith, dash-short has x h))
+
 pub line-short : (step answer phase word : ℕ) (phased returned : Bool)
     → step < 4294967296 → answer < 4294967296 → phase < 4294967296 → word < 4294967296
     → length (printedLine step answer (given phased phase) (given returned word)) ≤ longestPrinted

@@ -45,7 +45,7 @@ no-call (delivers m) h = absurd (omega arith)
 no-call (crashes m) h = absurd (omega arith)
 no-call malformed h = refl
 
-some-call : (l : Line) → (heldLine l .kind ≡ 0 → ⊥)
+pub some-call : (l : Line) → (heldLine l .kind ≡ 0 → ⊥)
     → callOf l ≡ some (callFor (heldLine l .kind) (heldLine l .member) (heldLine l .argument))
 unfolding heldLine callOf callFor
 some-call (writes m v) h = refl
@@ -54,7 +54,7 @@ some-call (delivers m) h = refl
 some-call (crashes m) h = refl
 some-call malformed h = absurd (h refl)
 
-caller-for : (kind m a : ℕ) → caller (callFor kind m a) ≡ m
+pub caller-for : (kind m a : ℕ) → caller (callFor kind m a) ≡ m
 unfolding caller callFor
 caller-for kind m a = on (eqb kind 1)
     (λ p. rw p)

@@ -1,11 +1,12 @@
-use borrow.Author.Needs.{needs}
+-- `refused` meets its contract: it is the form in which a refusal is held.
+use mathlib.Core.Path.{refl}
+use Rattle.overtaker.specs.Meaning.{heldOvertaker}
 use Rattle.overtaker.proofs.Overtaker.refused.Statement.{statement}
 use Rattle.overtaker.proofs.Overtaker.refused.Tie as tie
-use Rattle.overtaker.proofs.Overtaker.refused.Reads as reads
-use Rattle.overtaker.proofs.Overtaker.refused.Lts as lts
 
 returns : tie.Need-returns
-returns c = ?
+unfolding heldOvertaker
+returns c = refl
 
 pub refused-spec : {M : Type 1} → statement M
 refused-spec = tie.close (tie.spec returns)

@@ -1,26 +1,31 @@
+-- `begin` meets its contract: the slot is stored, and one begin more is counted if it is the member's.
 use borrow.Author.Needs.{needs}
+use mathlib.Core.Path.{_≡_, sym}
+use lib.ListN.{length}
+use borrow.Author.Tests.{eq-eqb}
+use Rattle.overtaker.specs.Search.{searchOf, searchBegin}
+use Rattle.overtaker.proofs.Slots.{slot-stored}
+use Rattle.overtaker.proofs.Tests.{begin-other}
 use Rattle.overtaker.proofs.search.Search.begin.Statement.{statement}
 use Rattle.overtaker.proofs.search.Search.begin.Tie as tie
-use Rattle.overtaker.proofs.search.Search.begin.Reads as reads
-use Rattle.overtaker.proofs.search.Search.begin.Lts as lts
-
-sub-at : tie.Need-sub-at
-sub-at c = ?
-
-mul-self : tie.Need-mul-self
-mul-self c = ?
-
-element-write-self : tie.Need-element-write-self
-element-write-self c = ?
-
-add-self : tie.Need-add-self
-add-self c = ?
 
 returns : tie.Need-returns
-returns c = ?
+unfolding searchOf searchBegin
+returns c =
+    let a = c .before .args in
+    let long : length (a .t1 .slots) ≡ 12 = search needs in
+    rw (slot-stored (a .t1 .slots) long (a .by) (c .before .pre .1) (a .slot), eq-eqb (a .by) (a .member) (c .if1 .taken))
 
 returns-2 : tie.Need-returns-2
-returns-2 c = ?
+unfolding searchOf searchBegin
+returns-2 c =
+    let a = c .before .args in
+    let long : length (a .t1 .slots) ≡ 12 = search needs in
+    rw (slot-stored (a .t1 .slots) long (a .by) (c .before .pre .1) (a .slot))
+    (sym (begin-other (a .member) 0 (searchOf (a .t1)) (a .by) (a .slot) (c .if1 .left)))
 
 pub begin-spec : {M : Type 1} → statement M
-begin-spec = tie.close (tie.spec sub-at mul-self element-write-self add-self returns returns-2)
+begin-spec =
+    tie.close
+    (tie.spec
+    (λ c. search needs) (λ c. search needs) (λ c. search needs) (λ c. search needs) returns returns-2)

@@ -1,15 +1,15 @@
+-- `start` meets its contract: twelve zeros are no slots.
 use borrow.Author.Needs.{needs}
+use Prim.Native.Nat.{ℕ}
+use Rattle.lists.proofs.Functions.{numbered-blank}
+use Rattle.lists.proofs.Parts.{words-zeros}
+use Rattle.overtaker.specs.Search.{searchOf, searchStart}
 use Rattle.overtaker.proofs.search.Search.start.Statement.{statement}
 use Rattle.overtaker.proofs.search.Search.start.Tie as tie
-use Rattle.overtaker.proofs.search.Search.start.Reads as reads
-use Rattle.overtaker.proofs.search.Search.start.Lts as lts
-use Rattle.overtaker.proofs.Overtaker.refused.Reads as refused-reads
-
-refused-requires : tie.Need-refused-requires
-refused-requires c κs = ?
 
 returns : tie.Need-returns
-returns c = ?
+unfolding searchOf searchStart
+returns c = rw (c .refused .ensures, words-zeros 12, numbered-blank {A = ℕ} 12 0)
 
 pub start-spec : {M : Type 1} → statement M
-start-spec = tie.close (tie.spec refused-requires returns)
+start-spec = tie.close (tie.spec (λ c κs. search needs) returns)
