@@ -7,27 +7,18 @@ ghost use lib.ListN.{length};
 ghost use Rattle.script.specs.Meaning.{longestPrinted};
 ghost use Rattle.script_run.specs.Feeding.{mostKept, over};
 ghost use Rattle.script_run.specs.Meaning.{mostWords, stateOf, Ready, FedAll};
-use libc::STDIN_FILENO;
-use libc::STDOUT_FILENO;
 use script_run::MOST_KEPT;
 use script_run::MOST_WORDS;
 use script_run::Progress;
 use script_run::steps::feed;
 use script_run::steps::finish;
+use streams::read_some;
+use streams::write_out;
 
 // How far the script has come, and whether there may be more to read.
 struct Turn {
     progress: Progress,
     more: bool,
-}
-
-// Writes bytes, and answers whether it could.
-fn write_out(bytes: &[u8]) -> bool {
-    let written = io::write_all(STDOUT_FILENO, bytes);
-    if !written {
-        os::fail(b"standard output");
-    }
-    written
 }
 
 // Feeds the bytes that were read, and writes what they print each time that the output is full. The script is over if that fails.
@@ -79,7 +70,7 @@ fn take_piece(table: &mut [u32], kept: &mut [u8], p: Progress, bytes: &[u8], out
 }
 
 // Reads once. Where that fails the script is over.
-fn read_some(
+fn read_piece(
     table: &mut [u32],
     kept: &mut [u8],
     p: Progress,
@@ -90,15 +81,14 @@ fn read_some(
     ensures { λ r. ⌜ Ready (r .progress) (now (table .exit)) (now (kept .exit)) ⌝ }
     ensures { λ r. ⌜ (over (stateOf (r .progress) (now (table .exit)) (now (kept .exit))) ≡ true → r .more ≡ false) ⌝ }
 {
-    let got = libc::read(STDIN_FILENO, input);
-    if got < 0 {
-        os::fail(b"standard input");
+    let got = read_some(input);
+    if !got.ok {
         return Turn {
             progress: Progress::OVER,
             more: false,
         };
     }
-    let n = io::count(got, input);
+    let n = got.length;
     take_piece(table, kept, p, &input[..n], out)
 }
 
@@ -120,7 +110,7 @@ fn run(table: &mut [u32], kept: &mut [u8], input: &mut [u8], out: &mut [u8])
     let mut progress = Progress::START;
     let mut turns = u64::MAX;
     while 0 < turns {
-        let turn = read_some(table, kept, progress, input, out);
+        let turn = read_piece(table, kept, progress, input, out);
         progress = turn.progress;
         turns = turns_left(turns, turn.more);
     }

@@ -1,10 +1,8 @@
 -- How the code holds what the definitions speak of, and what its functions require of each other.
-use Prim.Native.Nat.{ℕ, _≤_, _<_}
+use Prim.Native.Nat.{ℕ, _<_}
 use mathlib.Core.Path.{_≡_}
 use mathlib.Core.Bool.{true, false}
-use mathlib.Core.List.{List}
 use mathlib.Core.Option.{Option, none, some}
-use lib.ListN.{length, take}
 use Rattle.lists.specs.Functions.{Within}
 use Rattle.model.specs.Overtaker.{Overtaker, refuses, names, Asked}
 use Rattle.script_run.specs.declared.Done.{Done}
@@ -32,8 +30,3 @@ longestAnswer = 22
 abbrev pub Numbered : Overtaker → Type 0
 Numbered (refuses number) = 0 < number
 Numbered (names member step) = Unit {0}
-
--- the text stands at the front of the output, and ends at a place within it
-pub record Front (text : List ℕ) (end : ℕ) (out : List ℕ) : Type 0 where
-  pub within : end ≤ length out
-  pub printed : take end out ≡ text

@@ -70,6 +70,9 @@ impl Asked {
 // A longer script is refused before any line of it is read.
 pub const MOST_BYTES: usize = 65535;
 
+// No line that is printed is longer.
+pub const LONGEST_ANSWER: usize = 22;
+
 // Who overtook the operation that is the member's ordinal-th, from 1, among its begins that the board answered 0.
 pub fn find_overtaker(script: &[u8], member: u32, ordinal: u32) -> Overtaker
     ensures { λ r. ⌜ r ≡ heldOvertaker (overtaker (now (script .entry)) member ordinal) ⌝ }

@@ -2,12 +2,12 @@
 ghost use mathlib.Core.Path.{_≡_};
 ghost use mathlib.Core.Option.{Option};
 ghost use Prim.Native.Nat.{_≤_};
-ghost use lib.ListN.{length, drop};
+ghost use lib.ListN.{length, take, drop};
 ghost use Rattle.model.specs.Script.{linesOf};
 ghost use Rattle.model.specs.Overtaker.{Overtaker as Answer, mostBytes, linesOvertaker, overtaker, Asked as Operation, overtakerFor};
 ghost use Rattle.model.specs.Overtaker.{printedOvertaker};
 ghost use Rattle.script_run.specs.Meaning.{mostWords};
-ghost use Rattle.overtaker.specs.Meaning.{heldOvertaker, heldAsked, longestAnswer, Numbered, Front};
+ghost use Rattle.overtaker.specs.Meaning.{heldOvertaker, heldAsked, longestAnswer, Numbered};
 use crate::Asked;
 use crate::MOST_BYTES;
 use crate::Overtaker;
@@ -75,7 +75,8 @@ pub fn find_asked(script: &[u8], table: &mut [u32], asked: Asked) -> Overtaker
 // The line printed of an answer, at the front of the output.
 fn print_answer(out: &mut [u8], found: Overtaker) -> usize
     requires { ⌜ longestAnswer ≤ length (now out) ⌝ }
-    ensures { λ r. ⌜ ((x : Answer) → Numbered x → found ≡ heldOvertaker x → Front (printedOvertaker x) r (now (out .exit))) ⌝ }
+    ensures { λ r. ⌜ r ≤ length (now (out .exit)) ⌝ }
+    ensures { λ r. ⌜ ((x : Answer) → Numbered x → found ≡ heldOvertaker x → take r (now (out .exit)) ≡ printedOvertaker x) ⌝ }
 {
     let number = found.number;
     if number != 0 {
@@ -88,8 +89,9 @@ fn print_answer(out: &mut [u8], found: Overtaker) -> usize
 // What the program prints of what it read.
 pub fn answer(script: &[u8], table: &mut [u32], asked: Asked, out: &mut [u8]) -> usize
     requires { ⌜ (length (now table) ≡ mostWords) × (longestAnswer ≤ length (now out)) ⌝ }
+    ensures { λ r. ⌜ r ≤ length (now (out .exit)) ⌝ }
     ensures { λ r. ⌜ ((a : Option Operation) → asked ≡ heldAsked a
-        → Front (printedOvertaker (overtakerFor a (now (script .entry)))) r (now (out .exit))) ⌝ }
+        → take r (now (out .exit)) ≡ printedOvertaker (overtakerFor a (now (script .entry)))) ⌝ }
 {
     print_answer(out, find_asked(script, table, asked))
 }

@@ -31,10 +31,10 @@ abbrev μ-loop : tie.MeasureT-loop
 
 -- The places.
 
-abbrev read-back : tie.After-slice-known8 Inv-loop μ-loop → tie.After-read-some Inv-loop μ-loop
+abbrev read-back : tie.After-slice-known8 Inv-loop μ-loop → tie.After-read-piece Inv-loop μ-loop
 read-back c = c .before .before .before .before .before .before .before .before
 
-abbrev round : tie.After-read-some Inv-loop μ-loop → tie.At-loop Inv-loop μ-loop
+abbrev round : tie.After-read-piece Inv-loop μ-loop → tie.At-loop Inv-loop μ-loop
 round c = c .before .before .before .before .before .before
 
 abbrev written : tie.After-write-out-arg Inv-loop μ-loop → tie.After-finish Inv-loop μ-loop
@@ -54,8 +54,8 @@ loop-holds c =
       room = s .pre .1 .1;
     }
 
-read-some-requires : tie.Need-read-some-requires Inv-loop μ-loop
-read-some-requires c κs = let i = (c .before .before .before .before .before .loop) .inv in (i .ready, i .room)
+read-piece-requires : tie.Need-read-piece-requires Inv-loop μ-loop
+read-piece-requires c κs = let i = (c .before .before .before .before .before .loop) .inv in (i .ready, i .room)
 
 loop-less : tie.Need-loop-less Inv-loop μ-loop
 loop-less c = c .turns-left .ensures .1
@@ -63,7 +63,7 @@ loop-less c = c .turns-left .ensures .1
 loop-again : tie.Need-loop-again Inv-loop μ-loop
 loop-again c =
     let back = read-back (c .before .before) in
-    let r = back .read-some in
+    let r = back .read-piece in
     let i = round back .loop .inv in
     let same = r .kept .1 .1 .1 .1 .0 in
     record {
@@ -87,6 +87,6 @@ pub run-spec : {M : Type 1} → statement M
 run-spec =
     tie.close
     (tie.spec
-    Inv-loop μ-loop loop-holds read-some-requires (λ c. search needs) loop-less loop-again finish-requires
+    Inv-loop μ-loop loop-holds read-piece-requires (λ c. search needs) loop-less loop-again finish-requires
     (λ c. search needs) slice-aggregate-write-out (λ c κs. search needs) (λ c. search needs) (λ c. search needs)
     (λ c. search needs) (λ c. search needs) (λ c. search needs))

@@ -15,11 +15,12 @@ print-answer-requires : tie.Need-print-answer-requires
 print-answer-requires c κs = start (c .before .before) .pre .1
 
 returns : tie.Need-returns
-returns c a e =
+returns c =
     let printed = c .before .before in
     let found = printed .before .before .before in
     let script = start found .args .script .now in
-    printed .print-answer .ensures (overtakerFor a script) (answer-numbered a script) (found .find-asked .ensures a e)
+    let p = printed .print-answer .ensures in
+    (p .0, λ a e. p .1 (overtakerFor a script) (answer-numbered a script) (found .find-asked .ensures a e))
 
 pub answer-spec : {M : Type 1} → statement M
 answer-spec =

@@ -46,15 +46,12 @@ print-field-requires : tie.Need-print-field-requires
 print-field-requires c κs = omega (arith, number-short (c .before), refusing (c .before) .pre)
 
 returns : tie.Need-returns
-returns c x n e =
+returns c =
     let done = c .before .before in
     let tested = done .before .before in
     let a = refusing tested .args in
     let w = wrote (done .print-field .ensures) (omega (arith, number-short tested, refusing tested .pre)) in
-    record {
-      within = w .room;
-      printed = wrote-front w (omega arith) ∙ sym (refusal-printed x (a .found) n e (tested .if1 .taken));
-    }
+    (w .room, λ x n e. wrote-front w (omega arith) ∙ sym (refusal-printed x (a .found) n e (tested .if1 .taken)))
 
 print-field-requires-2 : tie.Need-print-field-requires-2
 print-field-requires-2 c κs = omega (arith, member-short (c .before), naming (c .before) .pre)
@@ -67,7 +64,7 @@ print-field-requires-3 c κs =
     omega (arith, step-short asked, member-short asked, naming asked .pre, p .ensures .behind, p .kept .0)
 
 returns-2 : tie.Need-returns-2
-returns-2 c x n e =
+returns-2 c =
     let done = c .before .before in
     let first = done .before .before .before .before in
     let asked = named first in
@@ -75,12 +72,9 @@ returns-2 c x n e =
     let p = first .print-field2 in
     let w = wrote (done .print-field3 .ensures)
     (omega (arith, step-short asked, member-short asked, naming asked .pre, p .ensures .behind, p .kept .0)) in
-    record {
-      within = w .room;
-      printed = wrote-front w (member-wrote first .room)
-          ∙ ap (λ t. t ++ field (some (a .found .step)) lineFeed) (wrote-front (member-wrote first) (omega arith))
-          ∙ sym (name-printed x (a .found) n e (search needs));
-    }
+    let both = wrote-front w (member-wrote first .room)
+    ∙ ap (λ t. t ++ field (some (a .found .step)) lineFeed) (wrote-front (member-wrote first) (omega arith)) in
+    (w .room, λ x n e. both ∙ sym (name-printed x (a .found) n e (search needs)))
 
 pub print-answer-spec : {M : Type 1} → statement M
 print-answer-spec =

@@ -1,0 +1,68 @@
+// Who overtook my operation: the member and the ordinal as arguments, a script from standard input, and one line to standard output.
+ghost use Prim.Native.Nat.{_≤_};
+ghost use mathlib.Core.Path.{_≡_};
+ghost use lib.ListN.{length};
+ghost use Rattle.overtaker.specs.Meaning.{longestAnswer};
+ghost use Rattle.script_run.specs.Meaning.{mostWords};
+use overtaker::Asked;
+use overtaker::LONGEST_ANSWER;
+use overtaker::steps::answer;
+use script_run::MOST_WORDS;
+use streams::Input;
+use streams::read_all;
+use streams::write_out;
+
+// Longer than any number: an argument that does not fit is none.
+const LONGEST_ARGUMENT: usize = 16;
+
+// The arguments behind the program's own name.
+fn argument_count() -> usize {
+    let count = os::arg_count();
+    if count == 0 {
+        return 0;
+    }
+    count - 1
+}
+
+fn read_arguments() -> Asked {
+    let mut first = [0u8; LONGEST_ARGUMENT];
+    let mut second = [0u8; LONGEST_ARGUMENT];
+    let a = os::arg(1, &mut first);
+    let b = os::arg(2, &mut second);
+    Asked::read(argument_count(), &first[..a], &second[..b])
+}
+
+// The script. Nothing is read where the arguments ask for no operation.
+fn read_script(asked: Asked, input: &mut [u8]) -> Input
+    ensures { λ r. ⌜ r .length ≤ length (now (input .exit)) ⌝ }
+{
+    if !asked.ok {
+        return Input {
+            ok: true,
+            length: 0,
+        };
+    }
+    read_all(input)
+}
+
+// Nothing is printed where reading fails.
+fn run(asked: Asked, input: &mut [u8], table: &mut [u32], out: &mut [u8])
+    requires { ⌜ (length (now table) ≡ mostWords) × (longestAnswer ≤ length (now out)) ⌝ }
+{
+    let read = read_script(asked, input);
+    if !read.ok {
+        return;
+    }
+    let n = read.length;
+    let end = answer(&input[..n], table, asked, out);
+    write_out(&out[..end]);
+}
+
+// A buffer of one byte more than a script may have tells one that is too long.
+fn main() {
+    let asked = read_arguments();
+    let mut input = io::large_buffer();
+    let mut table = [0u32; MOST_WORDS];
+    let mut out = [0u8; LONGEST_ANSWER];
+    run(asked, &mut input, &mut table, &mut out);
+}
