@@ -4,67 +4,21 @@
 # fails: what no contract says of it. Expected is what the simulator prints, or what stands here. Ends with 1 where anything differs.
 set -eu
 cd "$(dirname "$0")/.."
-program=$(readlink -f "${2:-target/bin/concur_board}")
+called=pipe
+program=("$(readlink -f "${2:-target/bin/concur_board}")")
 simulator=$1/simulator
-work=$(mktemp -d)
-trap 'rm -rf "$work"' EXIT
-mkfifo "$work/pipe"
-tried=0 wrong=0
-
-# same NAME: the program's output is the one expected, and it had ended by itself, with nothing on standard error.
-same() {
-    tried=$((tried + 1))
-    if [ "$status" -ne 0 ] || [ -s "$work/errors" ] || ! cmp "$work/out" "$work/expected"; then
-        wrong=$((wrong + 1))
-        echo "pipe: $1 (status $status)"
-        head -c 300 "$work/errors"
-    fi
-}
-
-# said NAME FILE TEXT: the file holds one line, and it begins with the text.
-said() {
-    tried=$((tried + 1))
-    if [ "$(wc -l <"$2")" -ne 1 ] || [ "$(head -c ${#3} "$2")" != "$3" ]; then
-        wrong=$((wrong + 1))
-        echo "pipe: $1"
-        head -c 300 "$2"
-    fi
-}
-
-# silent NAME FILE: the file is empty.
-silent() {
-    tried=$((tried + 1))
-    if [ -s "$2" ]; then
-        wrong=$((wrong + 1))
-        echo "pipe: $1"
-        head -c 300 "$2"
-    fi
-}
-
-# run [OUTPUT]: the program on the pipe, for 40 seconds at most.
-run() {
-    status=0
-    timeout 40 "$program" <"$work/pipe" >"${1:-$work/out}" 2>"$work/errors" || status=$?
-}
+source tests/piped.sh
 
 # Document 01's example in pieces that end in a word, at a number, before a line feed and behind it.
-{
-    for piece in 'mem' 'bers 2' '\nwrite 1 7' '7\n' 'deliver 1\ndeliver 1\ndel' 'iver 1\ndeliver 1\nread 2 1\n' 'deliver 2\ndeliver 2\ndeliver 2\ndeliver 2\n'; do
-        printf "$piece"
-        sleep 0.05
-    done
-} >"$work/pipe" &
-run
+fed 'mem' 'bers 2' '\nwrite 1 7' '7\n' 'deliver 1\ndeliver 1\ndel' 'iver 1\ndeliver 1\nread 2 1\n' \
+    'deliver 2\ndeliver 2\ndeliver 2\ndeliver 2\n'
 printf 'board 2\n1 0 1 -\n2 0 2 -\n3 0 3 -\n4 0 4 -\n5 0 0 -\n6 0 1 -\n7 0 2 -\n8 0 3 -\n9 0 4 -\n10 0 0 77\n' >"$work/expected"
 same "the example in pieces"
-wait
 
 # A last line without its line feed, after a pause, and the end of the input after another.
-{ printf 'members 2\nwrite 1 77\n'; sleep 0.1; printf 'deliver 1'; sleep 0.1; } >"$work/pipe" &
-run
+fed 'members 2\nwrite 1 77\n' 'deliver 1'
 printf 'board 2\n1 0 1 -\n2 0 2 -\n' >"$work/expected"
 same "a last line without its line feed"
-wait
 
 # Output while the pipe stays open: what a piece prints does not wait for the next.
 printf 'board 3\n1 0 0 -\n' >"$work/expected"
@@ -104,32 +58,18 @@ deliver 2
 deliver 2
 deliver 2' | head -n 9000; } >"$work/script"
 for rest in 0 1 3000; do
-    exec 3<>"$work/pipe"
-    head -c 65536 "$work/script" >&3
-    { sleep 0.2; tail -c +65537 "$work/script" | head -c "$rest" >&3; } &
-    exec 4<"$work/pipe" 3>&-
-    status=0
-    timeout 40 "$program" <&4 >"$work/out" 2>"$work/errors" || status=$?
-    exec 4<&-
+    full 65536 "$rest" "$work/script"
     head -c $((65536 + rest)) "$work/script" | "$simulator" >"$work/expected"
     same "a read of 65,536 bytes, and $rest behind them"
 done
 
-# Where reading fails, nothing is printed, and standard error says so; where writing fails, the program ends though the pipe stays open.
-"$program" <"$work" >"$work/out" 2>"$work/errors" || true
-silent "output of a folder" "$work/out"
-said "reading a folder" "$work/errors" "standard input"
-"$program" <&- >"$work/out" 2>"$work/errors" || true
-silent "output of a closed input" "$work/out"
-said "reading a closed input" "$work/errors" "standard input"
-
+# Where reading fails; and where writing fails, the program ends though the pipe stays open.
+unreadable
 { printf 'members 2\ndeliver 1\n'; exec sleep 90; } >"$work/pipe" &
 run /dev/full
 kill $!
 said "writing to a full device" "$work/errors" "standard output"
 [ "$status" -eq 0 ] || { wrong=$((wrong + 1)); echo "pipe: writing failed, and the program went on (status $status)"; }
-printf 'members 2' | "$program" >/dev/full 2>"$work/errors" || true
-said "writing at the end to a full device" "$work/errors" "standard output"
+unwritable 'members 2'
 
-echo "pipe: tried $tried, wrong $wrong"
-[ "$wrong" -eq 0 ]
+counted

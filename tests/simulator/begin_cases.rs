@@ -2,7 +2,6 @@
 // in order decides; and by which ground an auction board's call was answered.
 
 use crate::board::*;
-use std::collections::BTreeMap;
 
 /// A begin, and what is lent to it: a block, or a table of such blocks.
 pub struct BeginCase {
@@ -39,24 +38,6 @@ pub fn begin_case(kind: Kind, n: u32, number: usize) -> BeginCase {
         unsound: choose(&mut rest, &[false, true]),
         short: choose(&mut rest, &[false, true]),
         block,
-    }
-}
-
-/// How often each ground of an auction board's call came up.
-#[derive(Default)]
-pub struct Grounds {
-    times: BTreeMap<&'static str, u64>,
-}
-
-impl Grounds {
-    pub fn count(&mut self, ground: &'static str) {
-        *self.times.entry(ground).or_default() += 1;
-    }
-
-    /// Prints them; gives which of those that can occur never did.
-    pub fn missing(&self, name: &str, can_occur: &[&str]) -> Vec<String> {
-        println!("{} by ground {:?}", name, self.times);
-        can_occur.iter().filter(|ground| !self.times.contains_key(*ground)).map(|ground| format!("{} {}", name, ground)).collect()
     }
 }
 

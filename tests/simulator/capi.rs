@@ -9,6 +9,7 @@ mod begin_cases;
 mod board;
 mod c_lib;
 mod c_sim;
+mod grounds;
 mod guarded;
 mod message_cases;
 mod messages;
@@ -16,8 +17,9 @@ mod random;
 mod reference;
 mod rng;
 
-use begin_cases::{begin_case, ground_at, Grounds, AT_THE_LIMIT, BEGIN_CASES};
+use begin_cases::{begin_case, ground_at, AT_THE_LIMIT, BEGIN_CASES};
 use board::*;
+use grounds::Grounds;
 use guarded::{Guarded, GUARD, UNTOUCHED};
 use message_cases::{fixed_messages, random_messages};
 use random::*;

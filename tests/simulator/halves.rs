@@ -11,6 +11,7 @@ mod calls;
 mod calls_lib;
 mod calls_sim;
 mod flat;
+mod grounds;
 mod guarded;
 mod half_messages;
 mod half_walks;

@@ -1,7 +1,8 @@
 #!/bin/bash
 # Usage: mutants.sh OUTDIR   (after build.sh OUTDIR)
-# Makes wrong stub libraries and wrong simulators, one fault each, and sees
-# that capi, interleavings, halves, compare_scripts.sh or selftest notices every one.
+# Makes wrong stub libraries, wrong simulators and wrong tools, one fault each,
+# and sees that capi, interleavings, halves, compare_scripts.sh, compare_overtakers,
+# overtaker_pipe.sh or selftest notices every one.
 if [ $# -ne 1 ] || [ ! -x "$1/simulator" ]; then
     echo "usage: mutants.sh OUTDIR, after build.sh OUTDIR"
     exit 2
@@ -68,8 +69,7 @@ everywhere() { # name, perl change to what board and halves share in board.rs, "
     ask_halves "$1, in the halves"
 }
 
-alone() { # name, file, perl change: what the simulator must notice by itself
-    spoil "$2" "$3"
+ask_selftest() { # name, of the wrong simulator that stands there
     rustc -A warnings -O --edition 2021 "$work/source/selftest.rs" -o "$work/wrong" || exit 2
     if "$work/wrong" 1 3 > "$work/log" 2>&1; then
         verdict "$1" 0
@@ -78,10 +78,47 @@ alone() { # name, file, perl change: what the simulator must notice by itself
     fi
 }
 
+alone() { # name, file, perl change: what the simulator must notice by itself
+    spoil "$2" "$3"
+    ask_selftest "$1"
+}
+
 program() { # name, file, perl change
     spoil "$2" "$3"
     rustc -A warnings -O --edition 2021 "$work/source/main_sim.rs" -o "$work/wrong" || exit 2
     if "$here/compare_scripts.sh" "$work/wrong" "$out/simulator" "$out/scripts" > "$work/log"; then
+        verdict "$1" 0
+    else
+        verdict "$1" 1 "$(tail -1 "$work/log")"
+    fi
+}
+
+wrong_tool() { # file, perl change
+    spoil "$1" "$2"
+    rustc -A warnings -O --edition 2021 "$work/source/overtaker_sim.rs" -o "$work/wrong" || exit 2
+}
+
+compare_tool() { # tool, log
+    "$out/compare_overtakers" "$out/overtaken" 1 50 "$1" > "$2" 2>&1
+}
+
+tool() { # name, file, perl change: a wrong tool that names who overtook an operation
+    wrong_tool "$2" "$3"
+    if compare_tool "$work/wrong" "$work/log"; then
+        verdict "$1" 0
+    else
+        verdict "$1" 1 "$(grep -a DIFF "$work/log" | head -1 | sed "s/^DIFF.*wrong//" | cut -c1-160)"
+    fi
+}
+
+overtaker() { # name, perl change to overtaker.rs, which the simulator must notice by itself too
+    tool "$1" overtaker.rs "$2"
+    ask_selftest "$1, alone"
+}
+
+piped_tool() { # name, perl change to overtaker_sim.rs: what shows through a pipe alone
+    wrong_tool overtaker_sim.rs "$2"
+    if bash "$here/../overtaker_pipe.sh" "$work/wrong" > "$work/log" 2>&1; then
         verdict "$1" 0
     else
         verdict "$1" 1 "$(tail -1 "$work/log")"
@@ -401,7 +438,7 @@ program "carriage return dropped" script.rs 's/(line.pop\(\);)/$1 if line.last()
 program "the last line needs its feed" script.rs 's/if line.last\(\) == Some\(&b.\\n.\) \{/if line.last() != Some(\&10) { return Ok(None); }\n    {/'
 program "one step more" script.rs 's/1_000_000/1_000_001/'
 program "empty lines are no steps" script.rs 's/step \+= 1;/if line.is_empty() { continue; } step += 1;/'
-program "phase shown at 17" script.rs 's/answer == 4 \|\| answer == 17/answer == 4/; s/None => \(17, 0\)/None => (17, 1)/'
+program "phase shown at 17" script.rs 's/4 \| 17 => /4 => /; s/(None => .*?), 0\)/$1, 1)/'
 program "1 before 17" script.rs 's/if value > u32::MAX as u64 \{\n            return None/if value > u32::MAX as u64 {\n            return Some(u32::MAX)/'
 
 # Own reads in scripts, and in the simulator beside nothing but what was worked out by hand.
@@ -443,6 +480,119 @@ alone "alone: the book never closes" reference.rs 's/\*begins >= self.limit/fals
 alone "alone: the book counts begins on all slots" reference.rs \
     's/(let begins = .*?;)/let all: u32 = m.begins.iter().sum(); $1/; s/\*begins >= self.limit/all >= self.limit/'
 alone "alone: the book asks 9 before 8" reference.rs 's/(return 8;)/if m.begins[slot as usize - 1] >= self.limit { return 9; } $1/'
+
+# Who overtook an operation: which submit, of all that the host took.
+compare_tool "$out/overtaker_simulator" "$shared/log" || { echo "the right tool does not pass"; tail -1 "$shared/log"; exit 2; }
+found='Ok\(\(\*first.expect\(.*?\)\).clone\(\)\)'
+or_31='first.map(|submit| (*submit).clone()).ok_or(Ground::NoOperation)'
+overtaker "the last who overtook" 's/min_by_key/max_by_key/'
+overtaker "the lowest member who overtook" 's/(min_by_key.*?)submit.step/$1submit.member/'
+overtaker "the step of the overtaker's begin" \
+    "s/$found/let mut first = (*first.unwrap()).clone(); first.step = self.operations.iter().find(|other| other.submit == Some(first.step)).unwrap().begin; Ok(first)/"
+overtaker "a submit on another slot" 's/submit.slot == operation.slot/true/'
+overtaker "a submit on another slot alone" "s/submit.slot == operation.slot/submit.slot != operation.slot/; s/$found/$or_31/"
+overtaker "a submit before the own, since the begin" 's/submit.step > from/submit.step > operation.begin \&\& submit.step != from/'
+overtaker "a submit at any time before the own" 's/submit.step > from/submit.step != from/'
+overtaker "the own submit" 's/submit.step > from/submit.step >= from/'
+overtaker "a submit after the reply alone" "s/phase == REPLY_SENT/phase == 3/; s/$found/$or_31/"
+overtaker "a submit before the reply alone" \
+    "s/\\} else if phase == ACC/} else if phase == 3 { operation.commit = Some(at); } else if phase == ACC/; s/commit = Some\\(at\\);\\n/commit = operation.commit.or(Some(at));\\n/; s/$found/$or_31/"
+overtaker "an accepted operation, by a submit behind its verdict" \
+    's/ && submit.step < to//; s/!operation.aborted \{/self.between(operation).is_empty() {/'
+overtaker "an accepted operation, by its own submit" \
+    's/return Err\(Ground::Accepted\)/return Ok(Submit { step: operation.submit.unwrap(), member, slot: operation.slot })/'
+overtaker "an operation without a verdict" \
+    's/return Err\(Ground::NoVerdict\)/let later = |submit: \&\&Submit| submit.slot == operation.slot \&\& operation.submit.is_some_and(|own| submit.step > own);\n            return self.submits.iter().find(later).cloned().ok_or(Ground::NoVerdict)/'
+overtaker "an abort counts when it is told" \
+    's/(pub aborted: bool)/pub told: bool, $1/; s/(aborted: false)/told: false, $1/; s/(operation.aborted = phase.*?\n        \})/$1 else if phase == 0 { operation.told = true; }/; s/!operation.aborted \{/!operation.aborted || !operation.told {/'
+overtaker "a crash behind the verdict takes the abort away" \
+    's/Step::Crash \{ \.\. \} => \{\}/Step::Crash { member } => { for other in self.operations.iter_mut().rev().filter(|other| other.member == member).take(1) { other.aborted = false; } }/'
+mark='table[crate::board::block_start(table[0], member) + 1] == 1'
+delivered='(Step::Deliver \{ member \} => )(self.note_deliver\(.*?\)\)),'
+overtaker "a crashed member's submit overtakes nobody" \
+    "s/$delivered/\$1 { \$2; if phase_of(table, member) == REPLY_SENT \\&\\& $mark { self.submits.pop(); } }/; s/$found/$or_31/"
+overtaker "a crashed member's commit has no verdict" "s/$delivered/\$1 if phase_of(table, member) == REPLY_SENT || !($mark) { \$2 }/; s/$found/$or_31/"
+overtaker "an owner's submit overtakes nobody" "s/(self.submits.push\\(.*?\\);)/if member != operation.slot { \$1 }/; s/$found/$or_31/"
+overtaker "another's submit overtakes nobody" "s/(self.submits.push\\(.*?\\);)/if member == operation.slot { \$1 }/; s/$found/$or_31/"
+
+# Which operation, and which step.
+mine='if operation.member == member \{'
+overtaker "refused begins have ordinals" \
+    's/(\n    for \(before, step\).*?\n.*?\n.*?\n        \})/$1 else if !matches!(step, Step::Deliver { .. } | Step::Crash { .. }) {\n seen.note_begin(before as u32 + 1, step.member(), 1); let refused = seen.operations.pop().unwrap(); seen.operations.insert(0, refused); }/'
+overtaker "ordinals from 0" 's/before == ordinal/before == ordinal.wrapping_add(1)/'
+overtaker "ordinals over all members" "s/$mine\\n *before \\+= 1;\\n *if before == ordinal/{ before += 1; if before == ordinal \\&\\& operation.member == member/"
+overtaker "ordinals on the own slot alone" "s/$mine/if operation.member == member \\&\\& operation.slot == member {/"
+overtaker "ordinals of the aborted alone" "s/$mine/if operation.member == member \\&\\& operation.aborted {/"
+overtaker "ordinals kept in a byte" 's/before == ordinal/before as u8 as u32 == ordinal/'
+overtaker "an ordinal above 255 is 255" 's/before == ordinal/before == ordinal.min(255)/'
+overtaker "refused steps have no numbers" \
+    's/(let mut seen = Seen::default\(\);)/$1 let mut made = 0;/; s/seen.note\(before as u32 \+ 1/made += 1; seen.note(made/'
+overtaker "the first line is step 1" 's/before as u32 \+ 1/before as u32 + 2/'
+overtaker "steps from 0" 's/before as u32 \+ 1/before as u32/'
+overtaker "steps kept in 12 bits" 's/submit.member, submit.step/submit.member, submit.step % 4096/'
+overtaker "the step before the member" 's/submit.member, submit.step/submit.step, submit.member/'
+overtaker "the operation's own member is printed" "s/$found/let mut first = (*first.unwrap()).clone(); first.member = member; Ok(first)/"
+overtaker "who is named without a line feed" 's/"\{\} \{\}\\n"/"{} {}"/'
+overtaker "a refusal without a line feed" 's/"\{\}\\n"/"{}"/'
+overtaker "a comma between" 's/"\{\} \{\}\\n"/"{}, {}\\n"/'
+
+# The refusals, and their order.
+bad='return Err\(Ground::LaterLine\);'
+sizes='(    if !n_is_good\(n\) \{.*?\n    \}\n)'
+overtaker "1 before a later line's 17" "s/(    let mut steps = Vec::new.*?\\n    \\}\\n)$sizes/\$2\$1/s"
+overtaker "31 where members are not 1 to 12" 's/Ground::Members => 1/Ground::Members => 31/'
+for number in 1 31; do
+    overtaker "no line at all is $number" "s/Ground::NoLine \\| //; s/Ground::Members => 1/Ground::NoLine => $number, Ground::Members => 1/"
+done
+named='let \(member, ordinal\) = read_arguments\(arguments\)\?;'
+overtaker "31 for member or ordinal 0 before all else" "s/($named)/\$1 if member == 0 || ordinal == 0 { return Err(Ground::NoOperation); }/"
+overtaker "31 for member 13 before all else" "s/($named)/\$1 if member > 12 { return Err(Ground::NoOperation); }/"
+overtaker "1 before the arguments' 17" "s/($named)/if matches!(run, Err(Ground::Members)) { return Err(Ground::Members); } \$1/"
+overtaker "31 for bad arguments" 's/Ground::Arguments \| //; s/Ground::NoOperation \|/Ground::NoOperation | Ground::Arguments |/'
+overtaker "4 for a member above n" \
+    's/(NoVerdict,\n\})/NoMember, $1/; s/(Ground::Members => 1,)/$1 Ground::NoMember => 4,/; s/(Ok\(run\) =>)/Ok(run) if member == 0 || member > run.n => Err(Ground::NoMember),\n        $1/'
+overtaker "nothing is read behind a bad line" "s/$bad/break;/"
+overtaker "bad lines are passed over" "s/$bad/continue;/"
+overtaker "bad lines are steps, as on the board" "s/$bad/steps.push(Step::Deliver { member: 0 }); continue;/"
+overtaker "a bad last line is let through" "s/($bad)/if next().is_none() { break; } \$1/"
+overtaker "empty lines are passed over" "s/($bad)/if line.is_empty() { continue; } \$1/"
+overtaker "an empty last line is let through" "s/($bad)/if line.is_empty() \\&\\& next().is_none() { break; } \$1/"
+overtaker "a second members line is let through" "s/($bad)/if matches!(parse(\\&line), Some(Line::Members(_))) { continue; } \$1/"
+overtaker "a carriage return is let through" 's/parse\(&line\) else/parse(line.strip_suffix(b"\\r").unwrap_or(\&line)) else/'
+overtaker "an empty first line is passed over" 's/(let first = )(next\(\).*?);/$1$2; let first = if first.is_empty() { $2 } else { first };/'
+overtaker "65,536 bytes are let through" 's/65_535/65_536/'
+overtaker "65,535 bytes are refused" 's/65_535/65_534/'
+overtaker "the last line feed is not counted" 's/script.len\(\) > MOST_BYTES/script.strip_suffix(b"\\n").unwrap_or(script).len() > MOST_BYTES/'
+overtaker "31 for a longer script" 's/Ground::TooLong \| //; s/Ground::NoOperation \|/Ground::NoOperation | Ground::TooLong |/'
+tool "of a longer script the first 65,535 bytes are run" overtaker_sim.rs 's/ as u64 \+ 1/ as u64/'
+tool "status 1 at a refusal" overtaker_sim.rs 's/    0\n\}/    answered.is_err() as i32\n}/'
+tool "a refusal is said on standard error too" overtaker_sim.rs 's/    0\n\}/    if answered.is_err() { eprintln!("refused"); }\n    0\n}/'
+
+# The arguments.
+overtaker "a third argument is passed over" 's/arguments.len\(\) != 2/arguments.len() < 2/'
+overtaker "an empty third argument is passed over" 's/arguments.len\(\) != 2/arguments.len() < 2 || arguments.len() > 2 \&\& !arguments[2].is_empty()/'
+overtaker "one argument asks for the first operation" \
+    's/arguments.len\(\) != 2/!(1..=2).contains(\&arguments.len())/; s/number\(&arguments\[1\]\)/number(arguments.get(1).map_or(b"1", |argument| argument))/'
+for place in 0 1; do
+    argument="number\\(&arguments\\[$place\\]\\)"
+    given="\\&arguments[$place]"
+    overtaker "argument $place with leading zeros" "s/$argument/number(given(\\&arguments[$place]))/; s/(\\/\\/\\/ Member and ordinal)/fn given(all: \\&[u8]) -> \\&[u8] { match all { [b'0', rest @ ..] if !rest.is_empty() => given(rest), _ => all } }\\n\$1/"
+    for sign in + -; do
+        overtaker "argument $place with a $sign" "s/$argument/number($given.strip_prefix(b\"$sign\").unwrap_or($given))/"
+    done
+    overtaker "argument $place is what its digits are" "s/$argument/number($given.iter().copied().filter(|byte| byte.is_ascii_digit()).collect::<Vec<u8>>().as_slice())/"
+    overtaker "argument $place without its line feed" "s/$argument/number($given.strip_suffix(b\"\\\\n\").unwrap_or($given))/"
+    overtaker "argument $place as far as it is text" "s/$argument/number($given.split(|byte| *byte >= 128).next().unwrap())/"
+    overtaker "argument $place empty is 1" "s/$argument/number(if arguments[$place].is_empty() { b\"1\" } else { $given })/"
+    large="std::str::from_utf8($given).ok().and_then(|text| text.parse::<u64>().ok()).filter(|number| *number > u32::MAX as u64)"
+    overtaker "argument $place wraps at 2^32" "s/$argument/number($given).or($large.map(|number| number as u32))/"
+done
+
+# Reading and writing.
+piped_tool "what one read gives is taken" 's/\(&\*input\).take\(.*?\).read_to_end\(&mut script\)\?;/script.resize(65_536, 0); let size = (\&*input).read(\&mut script)?; script.truncate(size);/'
+piped_tool "an input that cannot be read is empty" 's/let script = match read_input\(\) \{.*?\n    \};/let script = read_input().unwrap_or_default();/s'
+piped_tool "a closed input is empty" 's/match read_input\(\) \{/match read_input().or_else(|reason| if reason.raw_os_error() == Some(9) { Ok(Vec::new()) } else { Err(reason) }) {/'
+piped_tool "a failed write goes unsaid" 's/eprintln!\("standard output.*?;//'
 rm -rf "$work" "$shared"
 echo "noticed $noticed, missed $missed"
 [ $missed -eq 0 ]

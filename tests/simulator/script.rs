@@ -1,6 +1,6 @@
 // The board program (document 01): a script in, answers out.
 
-use crate::board::{crash, deliver, n_is_good, new_table, phase_of, Sheet, COMMON, READ, WRITE};
+use crate::board::{crash, deliver, n_is_good, new_table, phase_of, Answer, COMMON, READ, WRITE};
 use std::io::{BufRead, Result, Write};
 
 pub const MOST_STEPS: u64 = 1_000_000;
@@ -8,10 +8,35 @@ pub const MOST_STEPS: u64 = 1_000_000;
 #[derive(Clone, Debug, PartialEq, Eq)]
 pub enum Line {
     Members(u32),
+    Step(Step),
+}
+
+#[derive(Clone, Debug, PartialEq, Eq)]
+pub enum Step {
     Write { member: u32, value: u32 },
     Read { member: u32, slot: u32 },
     Deliver { member: u32 },
     Crash { member: u32 },
+}
+
+impl Step {
+    pub fn member(&self) -> u32 {
+        match *self {
+            Step::Write { member, .. } | Step::Read { member, .. } => member,
+            Step::Deliver { member } | Step::Crash { member } => member,
+        }
+    }
+
+    /// Makes the step on a common board.
+    pub fn make(&self, table: &mut [u32]) -> Answer {
+        let number = match *self {
+            Step::Write { member, value } => COMMON.begin(table, member, member, WRITE, &[0, 0, 0, 0, 0, 0, 0, value]),
+            Step::Read { member, slot } => COMMON.begin(table, member, slot, READ, &[0; 8]),
+            Step::Deliver { member } => return deliver(table, member),
+            Step::Crash { member } => crash(table, member),
+        };
+        Answer { number, returned: None }
+    }
 }
 
 /// Digits without a leading zero, below 2^32. "0" is a number.
@@ -42,27 +67,27 @@ pub fn parse(line: &[u8]) -> Option<Line> {
             return Some(Line::Members(a));
         }
         if word == b"deliver" {
-            return Some(Line::Deliver { member: a });
+            return Some(Line::Step(Step::Deliver { member: a }));
         }
         if word == b"crash" {
-            return Some(Line::Crash { member: a });
+            return Some(Line::Step(Step::Crash { member: a }));
         }
     }
     if pieces.len() == 3 {
         let a = number(pieces[1])?;
         let b = number(pieces[2])?;
         if word == b"write" {
-            return Some(Line::Write { member: a, value: b });
+            return Some(Line::Step(Step::Write { member: a, value: b }));
         }
         if word == b"read" {
-            return Some(Line::Read { member: a, slot: b });
+            return Some(Line::Step(Step::Read { member: a, slot: b }));
         }
     }
     None
 }
 
 /// The next line without its line feed, or none at the end of the input.
-fn next_line(input: &mut dyn BufRead) -> Result<Option<Vec<u8>>> {
+pub fn next_line(input: &mut dyn BufRead) -> Result<Option<Vec<u8>>> {
     let mut line = Vec::new();
     if input.read_until(b'\n', &mut line)? == 0 {
         return Ok(None);
@@ -95,33 +120,19 @@ pub fn run(input: &mut dyn BufRead, output: &mut dyn Write) -> Result<()> {
             None => break,
         };
         step += 1;
-        let mut returned: Option<Sheet> = None;
         let (answer, member) = match parse(&line) {
-            Some(Line::Write { member, value }) => {
-                let sheet = [0, 0, 0, 0, 0, 0, 0, value];
-                (COMMON.begin(&mut table, member, member, WRITE, &sheet), member)
-            }
-            Some(Line::Read { member, slot }) => {
-                (COMMON.begin(&mut table, member, slot, READ, &[0; 8]), member)
-            }
-            Some(Line::Deliver { member }) => {
-                let result = deliver(&mut table, member);
-                returned = result.returned;
-                (result.number, member)
-            }
-            Some(Line::Crash { member }) => (crash(&mut table, member), member),
-            Some(Line::Members(_)) | None => (17, 0),
+            Some(Line::Step(step)) => (step.make(&mut table), step.member()),
+            Some(Line::Members(_)) | None => (Answer { number: 17, returned: None }, 0),
         };
-        let phase = if answer == 4 || answer == 17 {
-            "-".to_string()
-        } else {
-            phase_of(&table, member).to_string()
+        let phase = match answer.number {
+            4 | 17 => "-".to_string(),
+            _ => phase_of(&table, member).to_string(),
         };
-        let value = match returned {
+        let value = match answer.returned {
             Some(sheet) => sheet[7].to_string(),
             None => "-".to_string(),
         };
-        writeln!(output, "{} {} {} {}", step, answer, phase, value)?;
+        writeln!(output, "{} {} {} {}", step, answer.number, phase, value)?;
     }
     Ok(())
 }

@@ -7,15 +7,20 @@ mod board;
 mod c_sim;
 mod calls;
 mod calls_sim;
+mod fixed_scripts;
 mod flat;
 mod message_cases;
 mod messages;
+mod overtaken;
+mod overtaker;
+mod overtaker_cases;
 mod own_reads;
 mod random;
 mod reference;
 mod replies;
 mod rng;
 mod script;
+mod script_cases;
 
 use board::*;
 use messages::Message;
@@ -47,6 +52,7 @@ fn main() {
     host_grounds();
     own_reads::all();
     auction::all();
+    overtaken::all(&mut Rng::new(seed));
     message_grounds();
     message_round_trips(&mut Rng::new(seed));
     random_runs(seed, runs);

@@ -1,9 +1,10 @@
 // How often each answer and each halt of the calls on the halves came up, and
 // with how many pairs.
 
-use crate::begin_cases::{ground_at, Grounds, AT_THE_LIMIT};
+use crate::begin_cases::{ground_at, AT_THE_LIMIT};
 use crate::board::{n_is_good, ABORTED, ACCEPTED, AUCTION, HALTED, READ};
 use crate::calls::{Call, Lent, CALLS, NAMES};
+use crate::grounds::Grounds;
 use std::collections::BTreeMap;
 
 /// The answers of each call that can occur, as in NAMES: on anything that is

@@ -1,0 +1,88 @@
+// Programs that name who overtook an operation, beside the simulator.
+// Usage: compare_overtakers FOLDER SEED RANDOM_RUNS PROGRAM..
+// Writes the scripts into the folder and runs each program on every case, with
+// the script's file as its input. Ends with 1 at the first output that differs,
+// and where something that can occur never came up.
+#![allow(dead_code)]
+
+mod board;
+mod fixed_scripts;
+mod folder;
+mod grounds;
+mod overtaker;
+mod overtaker_cases;
+mod overtaker_grounds;
+mod reference;
+mod rng;
+mod script;
+mod script_cases;
+
+use folder::Folder;
+use grounds::Grounds;
+use overtaker::{answer, printed, run};
+use overtaker_cases::{cases, Arguments};
+use overtaker_grounds::Case;
+use rng::Rng;
+use std::ffi::OsStr;
+use std::fs::File;
+use std::os::unix::ffi::OsStrExt;
+use std::path::Path;
+use std::process::{exit, Child, Command, Stdio};
+
+fn start(program: &str, arguments: &Arguments, script: &Path) -> Child {
+    let mut command = Command::new(program);
+    command.args(arguments.iter().map(|argument| OsStr::from_bytes(argument)));
+    command.stdin(File::open(script).expect("cannot read a script")).stdout(Stdio::piped()).stderr(Stdio::piped());
+    command.spawn().expect("cannot run a program")
+}
+
+/// A program has to print what is expected, say nothing on standard error and end with 0.
+fn difference(started: Child, expected: &[u8]) -> Option<String> {
+    let run = started.wait_with_output().expect("cannot wait for a program");
+    if run.stdout == expected && run.stderr.is_empty() && run.status.code() == Some(0) {
+        return None;
+    }
+    let (expected, got, said) = (shown(expected), shown(&run.stdout), shown(&run.stderr));
+    Some(format!("expected {}, got {} ({}; standard error {})", expected, got, run.status, said))
+}
+
+fn shown(bytes: &[u8]) -> String {
+    format!("'{}'", bytes[..bytes.len().min(200)].escape_ascii())
+}
+
+/// Ends where a program differs. All run at the same time.
+fn compare(programs: &[String], arguments: &Arguments, script: &Path, expected: &[u8]) {
+    let started: Vec<Child> = programs.iter().map(|program| start(program, arguments, script)).collect();
+    for (program, started) in programs.iter().zip(started) {
+        if let Some(difference) = difference(started, expected) {
+            let arguments: Vec<String> = arguments.iter().map(|argument| shown(argument)).collect();
+            println!("DIFF {} {} < {}: {}", program, arguments.join(" "), script.display(), difference);
+            exit(1);
+        }
+    }
+}
+
+fn main() {
+    let args: Vec<String> = std::env::args().collect();
+    if args.len() < 5 {
+        println!("usage: compare_overtakers FOLDER SEED RANDOM_RUNS PROGRAM..");
+        exit(2);
+    }
+    let (seed, random_runs) = (args[2].parse().expect("seed"), args[3].parse().expect("number"));
+    let mut folder = Folder::new(&args[1]);
+    let mut grounds = Grounds::default();
+    let mut compared = 0;
+    for asked in cases(&mut Rng::new(seed), random_runs) {
+        let file = folder.put(&asked.name, &asked.script);
+        let run = run(&asked.script);
+        for arguments in &asked.lists {
+            let answered = answer(arguments, &run);
+            compare(&args[4..], arguments, &file, &printed(&answered));
+            overtaker_grounds::count(&mut grounds, &Case { arguments, script: &asked.script, run: &run, answered: &answered });
+            compared += 1;
+        }
+    }
+    let missing = overtaker_grounds::missing(&grounds);
+    println!("seed {} scripts {} cases {}, never came up {:?}", seed, folder.made, compared, missing);
+    exit(if missing.is_empty() { 0 } else { 1 });
+}
