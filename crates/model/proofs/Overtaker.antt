@@ -22,8 +22,8 @@ use Rattle.model.specs.Overtaker.{abortedOp, earlier, firstOvertaking, o
 use Rattle.model.specs.OvertakerClaims.{slotBegun, TakesSubmit, Aborted, Overtook, Answered}
 use Rattle.model.proofs.HistoryLists.{every}
 use Rattle.model.proofs.Phases.{RunMoves, run-moves}
-use Rattle.model.proofs.PositionsInvariant.{Places}
-use Rattle.model.proofs.Positions.{Ahead, run-left, places-nothing}
+use Rattle.model.proofs.PositionsInvariant.{Moved, Places}
+use Rattle.model.proofs.Positions.{Ahead, Left, beside, run-beside, places-nothing}
 use Rattle.model.proofs.OvertakerMarks.{Judged, Falling, Marks, marks-after, marks-nothing}
 
 -- Lists of operations and submits.
@@ -243,12 +243,15 @@ module _ (calls : List Call) (seen : List Seen) (p : ℕ → ℕ) (w : Watch) (p
         (u .listed (λ s. TakesSubmit look (s .at) (s .member) (s .slot)) (marks .takes) .1)) in
         record {
           one = s;
-          holds = (when, both (eq-eqb (s .slot) (o .given .slot) (sym slot ∙ t .1 ∙ its .taken .slot))
-              (both (lt-ltb (o .submitAt) (s .at) (omega arith)) (lt-ltb (s .at) (o .verdictAt) (omega arith))));
+          holds = (
+            when,
+            both (eq-eqb (s .slot) (o .given .slot) (sym slot ∙ t .1 ∙ its .taken .slot))
+                (both (lt-ltb (o .submitAt) (s .at) (omega arith)) (lt-ltb (s .at) (o .verdictAt) (omega arith))),
+          );
           listed = u .listed;
         }
 
-    some-answered : (s : Submit) → FoundSubmit o (w .submits) s → Overtook look i k s
+    some-answered : (s : Submit) → FoundSubmit o (w .submits) s → Overtook look i k (s .member) (s .at)
     some-answered s g =
         let within = ltb (o .submitAt) (s .at) && ltb (s .at) (o .verdictAt) in
         let slot = eqb-true (s .slot) (o .given .slot) (first (eqb (s .slot) (o .given .slot)) within (g .overtook)) in
@@ -281,14 +284,24 @@ module _ (calls : List Call) (seen : List Seen) (p : ℕ → ℕ) (w : Watch) (p
     op-answered (some o) e = submit-answered o (op-found i k (w .decided) o e) (firstOvertaking o (w .submits)) refl
 
 -- Of every run of which demand 3 holds.
-pub overtaker-answered : (kind : Kind) (n : ℕ) (calls : List Call) (boards : List Board) (seen : List Seen) → Demand3 kind n calls boards seen
-    → (i k : ℕ) → Answered (stepAt calls seen) i k (overtakerIn (watched calls seen) i k)
-unfolding watched nothingYet overtakerIn refOpened refIdle
+
+-- what goes beside the watch of it, where every move keeps Q
+pub watched-left : {T : Type 0} (next : T → Call → Seen → T) (calls : List Call) (seen : List Seen) (Q : (ℕ → ℕ) → Watch → T → Type 0)
+    → ((p q : ℕ → ℕ) (w x : Watch) (t : T) (call : Call) (s : Seen) → stepAt calls seen (w .steps + 1) ≡ some (step call s)
+    → Moved (stepAt calls seen) p w q x → Places (stepAt calls seen) p w → Q p w t → Q q x (next t call s))
+    → (t : T) → Q (λ i. 0) nothingYet t → (kind : Kind) (n : ℕ) (boards : List Board) → Demand3 kind n calls boards seen
+    → Left (stepAt calls seen) (λ q x. Q q x (beside next t calls seen)) (watched calls seen)
+unfolding watched nothingYet refOpened refIdle
+watched-left next calls seen Q keep t h kind n boards d =
+    let moves = subst (RunMoves (λ i. 0) calls) (sym (d .asReference)) (run-moves kind n refOpened calls) in
+    let ahead : Ahead (stepAt calls seen) 0 calls seen = λ k z. ap (stepAt calls seen) (omega arith) in
+    run-beside (stepAt calls seen) next Q keep (λ i. 0) nothingYet t (places-nothing (stepAt calls seen)) h calls seen ahead moves
+
+pub overtaker-answered : (kind : Kind) (n : ℕ) (calls : List Call) (boards : List Board) (seen : List Seen)
+    → Demand3 kind n calls boards seen → (i k : ℕ) → Answered (stepAt calls seen) i k (overtakerIn (watched calls seen) i k)
+unfolding overtakerIn
 overtaker-answered kind n calls boards seen d i k =
-    let look = stepAt calls seen in
-    let moves : RunMoves (λ i. 0) calls seen = subst (RunMoves (λ i. 0) calls) (sym (d .asReference)) (run-moves kind n refOpened calls) in
-    let ahead : Ahead look 0 calls seen = λ k z. ap look (omega arith) in
-    let l = run-left look (Marks look) (λ p q w x. marks-after) (λ i. 0) nothingYet (places-nothing look) (marks-nothing look)
-    calls seen ahead moves in
     let w = watched calls seen in
+    let l = watched-left {T = Unit {0}} (λ t call s. t) calls seen (λ p w t. Marks (stepAt calls seen) p w)
+    (λ p q w x t call s here. marks-after) tt (marks-nothing (stepAt calls seen)) kind n boards d in
     op-answered calls seen (l .phases) w (l .places) (l .kept) (d .positions .complete) i k (d .aborts) (abortedOp i k (w .decided)) refl

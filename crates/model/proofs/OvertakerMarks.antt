@@ -1,5 +1,5 @@
--- What is known of slots and ordinals after every step: when a submit or a commit of an operation was taken, it was the last that its member
--- had begun. Each of the six moves keeps it.
+-- What is known of slots and ordinals after every step: when a submit or a commit of an operation was taken, it was the last that its
+-- member had begun. Each of the six moves keeps it.
 use Prim.Native.Nat.{ℕ, _+_, _≤_, _<_}
 use mathlib.Core.Path.{_≡_, refl, sym, ap, subst, _∙_}
 use mathlib.Core.Bool.{Bool, false, cond, and-true}
@@ -14,7 +14,7 @@ use Rattle.lists.proofs.Functions.{put-all, put-both}
 use Rattle.model.specs.Runs.{begin, deliver, crash, Step, step}
 use Rattle.model.specs.Reference.{Operation}
 use Rattle.model.specs.History.{Op, Submit, Watch, noOp, begunOp, submittedOp, submitOf, decidedOp, endedOp, nothingYet}
-use Rattle.model.specs.Positions.{IsBegin, IsDeliver, beganBy, begunCount}
+use Rattle.model.specs.Positions.{IsBegin, beganBy, begunCount}
 use Rattle.model.specs.OvertakerClaims.{slotAfter, slotBegun, TakesSubmit}
 use Rattle.model.proofs.HistoryLists.{every, every-ended}
 use Rattle.model.proofs.Phases.{verdict-high}
@@ -92,7 +92,8 @@ module _ {look : ℕ → Option Step} {p : ℕ → ℕ} {w : Watch} (quiet : (k 
   judged-now i a m = record { taken = record { ordinal = m .ordinal; slot = m .slot }; verdict = same-count i }
 
 -- Each move keeps it.
-pub marks-after : {look : ℕ → Option Step} {p q : ℕ → ℕ} {w x : Watch} → Moved look p w q x → Places look p w → Marks look p w → Marks look q x
+pub marks-after : {look : ℕ → Option Step} {p q : ℕ → ℕ} {w x : Watch} → Moved look p w q x → Places look p w → Marks look p w
+    → Marks look q x
 unfolding begunOp submittedOp submitOf decidedOp endedOp
 marks-after {w = w} (stays quiet d) h t = record {
   running = same-slot quiet h t;
@@ -159,7 +160,8 @@ marks-after {look} {p} {w = w} (judges i a three d) h t =
     }
 marks-after {look} {p} {w = w} (ends i v four d) h t =
     let quiet = deliver-counts i 0 v (look (w .steps + 1)) d in
-    let keeps : (o : Op) → o .given .member ≡ i → Judged look (o .given .member) o → Judged look (o .given .member) (endedOp (w .steps + 1) v o) =
+    let keeps : (o : Op) → o .given .member ≡ i → Judged look (o .given .member) o
+    → Judged look (o .given .member) (endedOp (w .steps + 1) v o) =
     λ o m j. record { taken = record { ordinal = j .taken .ordinal; slot = j .taken .slot }; verdict = j .verdict } in
     record {
       running = same-slot quiet h t;

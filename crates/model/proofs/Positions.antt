@@ -101,7 +101,8 @@ module _ (look : ℕ → Option Step) (p : ℕ → ℕ) (w : Watch) (h : Places 
   unfolding watchCall beganBy
   taken-stepped (begin i r t v) here zero m = begin-stepped i r t v here zero (m .isIdle) (m .phases)
   taken-stepped (deliver i) here zero m = deliver-stepped i here zero (m .to) (m .next) (m .phases)
-  taken-stepped (crash i) here zero m = record { moved = rw m (stays (λ k. rw here refl) (λ j q v d. subst (IsDeliver j q v) here d)); placed = λ z. tt }
+  taken-stepped (crash i) here zero m =
+      record { moved = rw m (stays (λ k. rw here refl) (λ j q v d. subst (IsDeliver j q v) here d)); placed = λ z. tt }
 
   stepped : (call : Call) → look (w .steps + 1) ≡ some (step call s) → StepMoves p call s → Stepped look p w call s (watchStep w call s)
   unfolding watchStep

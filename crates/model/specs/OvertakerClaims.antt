@@ -31,16 +31,19 @@ pub record Aborted (at : ℕ → Option Step) (i k submitAt verdictAt : ℕ) : T
   pub itsSubmit : begunCount at i submitAt ≡ k
   pub itsVerdict : begunCount at i verdictAt ≡ k
 
--- the step is a deliver of that member at which the host took a submit on the operation's slot in between, "with none earlier"
-pub record Overtook (at : ℕ → Option Step) (i k : ℕ) (s : Submit) : Type 0 where
+-- Member j overtook it at step t: a deliver of j at which the host took a submit on the operation's slot in between, "with none earlier".
+pub record Overtook (at : ℕ → Option Step) (i k j t : ℕ) : Type 0 where
   pub submitAt : ℕ
   pub verdictAt : ℕ
   pub aborted : Aborted at i k submitAt verdictAt
-  pub takes : TakesSubmit at (s .at) (s .member) (slotBegun at i submitAt)
-  pub between : (submitAt < s .at) × (s .at < verdictAt)
-  pub first : (step j : ℕ) → submitAt < step → step < s .at → TakesSubmit at step j (slotBegun at i submitAt) → ⊥
+  pub takes : TakesSubmit at t j (slotBegun at i submitAt)
+  pub between : (submitAt < t) × (t < verdictAt)
+  pub first : (u m : ℕ) → submitAt < u → u < t → TakesSubmit at u m (slotBegun at i submitAt) → ⊥
+
+abbrev pub NotAborted : (ℕ → Option Step) → ℕ → ℕ → Type 0
+NotAborted at i k = (submitAt verdictAt : ℕ) → Aborted at i k submitAt verdictAt → ⊥
 
 -- Both answers: an operation that was aborted always has one.
 abbrev pub Answered : (ℕ → Option Step) → ℕ → ℕ → Option Submit → Type 0
-Answered at i k (some s) = Overtook at i k s
-Answered at i k none = (submitAt verdictAt : ℕ) → Aborted at i k submitAt verdictAt → ⊥
+Answered at i k (some s) = Overtook at i k (s .member) (s .at)
+Answered at i k none = NotAborted at i k

@@ -45,7 +45,8 @@ module _ (i k : ℕ) where
         short-enough (omega arith) ∙ ap (λ lines. scriptOvertaker lines i k) (no-line input (omega arith))
 
     -- the first line, and those behind it
-    module _ (short : length input ≤ mostBytes) (some-bytes : 0 < length input) (long : ℕ) (ends : long ≡ length (before lineFeed input)) where
+    module _ (short : length input ≤ mostBytes) (some-bytes : 0 < length input) (long : ℕ)
+        (ends : long ≡ length (before lineFeed input)) where
       by-first : overtaker input i k ≡ membersOvertaker (firstOf (take long input)) (linesOf (drop (long + 1) input)) i k
       unfolding scriptOvertaker
       by-first = short-enough short ∙ rw ends (ap (λ lines. scriptOvertaker lines i k) (first-line input some-bytes))

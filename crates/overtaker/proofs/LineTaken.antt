@@ -1,14 +1,14 @@
--- One line more in the pass over a script's lines: it is refused, or the others follow on the table that it left. And a call that is answered
--- 0 is one of a member's.
+-- One line more in the pass over a script's lines: it is refused, or the others follow on the table that it left. And a call that is
+-- answered 0 is one of a member's.
 use Prim.Native.Nat.{ℕ, _+_, _-_, _≤_}
 use mathlib.Core.Path.{_≡_, refl, sym, ap, subst, _∙_}
 use mathlib.Core.Bool.{Bool, true, _&&_, _||_}
-use mathlib.Core.List.{List, _∷_}
+use mathlib.Core.List.{List}
 use mathlib.Core.Option.{Option, none, some}
 use native.Mathlib.Omega.{arith}
 use lib.Dec.{eqb}
 use lib.ListN.{take, drop}
-use Rattle.lists.specs.Functions.{inside, Within}
+use Rattle.lists.specs.Functions.{inside}
 use Rattle.lists.specs.Parts.{words}
 use Rattle.lists.proofs.Functions.{on, split, inside-low, inside-high}
 use Rattle.lists.proofs.Refusals.{no-number}
@@ -19,7 +19,7 @@ use Rattle.model.specs.TableCalls.{boardIn, callNumber, tableAnswer, tableSeen}
 use Rattle.model.specs.Script.{lineCall, linesOf, caller, stepped, stepLine}
 use Rattle.model.specs.Overtaker.{refuses}
 use Rattle.model.proofs.Answers.{begin-taken, deliver-taken, crash-taken}
-use Rattle.script_run.specs.Meaning.{callBy, Shows, StepHeld, Whole}
+use Rattle.script_run.specs.Meaning.{Shows, StepHeld, Whole}
 use Rattle.script_run.specs.declared.Done.{Done}
 use Rattle.script_run.proofs.Held.{caller-for}
 use Rattle.overtaker.specs.Meaning.{heldOvertaker, Made}

@@ -10,28 +10,30 @@ use lib.Dec.{eqb}
 use borrow.Author.Tests.{eq-eqb, ne-eqb, eqb-true, eqb-false}
 use Rattle.lists.specs.Every.{Every}
 use Rattle.lists.specs.Functions.{put, inside}
-use Rattle.lists.proofs.Functions.{on, first, second, fails, put-all, put-both}
+use Rattle.lists.proofs.Functions.{on, first, put-all, put-both}
 use Rattle.model.specs.Kinds.{Kind, concur}
 use Rattle.model.specs.Records.{Value}
 use Rattle.model.specs.Board.{Board, opened}
 use Rattle.model.specs.Runs.{Call, begin, deliver, crash, Seen, Step, step}
-use Rattle.model.specs.Reference.{Operation, refIdle, refOpened}
+use Rattle.model.specs.Reference.{Operation}
 use Rattle.model.specs.History.{Op, Submit, Watch, noOp, begunOp, submittedOp, submitOf, decidedOp, ended, nothingYet, watched}
-use Rattle.model.specs.Positions.{stepAt, IsBegin, IsDeliver, beganBy, Decided}
+use Rattle.model.specs.Positions.{stepAt, IsBegin, IsDeliver, beganBy}
 use Rattle.model.specs.Demand3.{Demand3}
 use Rattle.model.specs.Table.{tableWords}
 use Rattle.model.specs.TableCalls.{tableAfter, tableSeen, tableRun}
 use Rattle.model.specs.Script.{lineCall, withCall, callsOf, stepped, stepLine}
 use Rattle.model.specs.Overtaker.{refuses, names, named, abortedOp, overtakerIn, isCall, wellFormed, linesOvertaker}
 use Rattle.model.proofs.HistoryLists.{every}
-use Rattle.model.proofs.Phases.{RunMoves, run-moves, verdict-high}
-use Rattle.model.proofs.PositionsInvariant.{Moved, stays, begins, submits, replies, judges, ends, Places, later, withRunning, withDecided, nextOp}
-use Rattle.model.proofs.Positions.{Ahead, beside, run-beside, places-nothing}
+use Rattle.model.proofs.PositionsInvariant.{Moved, stays, begins, submits, replies, judges, ends, Places, later, withRunning}
+use Rattle.model.proofs.PositionsInvariant.{withDecided, nextOp}
+use Rattle.model.proofs.Positions.{beside}
+use Rattle.model.proofs.Overtaker.{watched-left}
 use Rattle.model.proofs.OvertakerMarks.{Marks, marks-after, marks-nothing}
 use Rattle.runs.proofs.Scripts.{steps-run}
 use Rattle.overtaker.specs.Meaning.{heldOvertaker}
 use Rattle.overtaker.specs.Search.{Search, orFirst, searchStart, searchBegin, searchOwn, searchOther, searchSubmit}
-use Rattle.overtaker.specs.Search.{searchJudged, searchVerdict, searchDeliver, searchCall, searchNext, searchStep, searchAnswer, unlessMalformed, linesSearched}
+use Rattle.overtaker.specs.Search.{searchJudged, searchVerdict, searchDeliver, searchCall, searchNext, searchStep, searchAnswer}
+use Rattle.overtaker.specs.Search.{unlessMalformed, linesSearched}
 use Rattle.overtaker.specs.declared.Overtaker.{Overtaker}
 use Rattle.overtaker.proofs.Stages.{shown, Stage, waits, stage-begins, stage-submits, stage-replies, stage-judges, stage-overtaken}
 use Rattle.overtaker.proofs.Stages.{stage-apart, stage-ended, stage-idle, stage-answers}
@@ -156,9 +158,11 @@ module _ (i k : ℕ) where
             (λ e. absurd (other e))
             (λ m d e. let b = at-stage m e in
             let new = submitOf (w .steps + 1) j (w .running j) in
-            let next = stage-overtaken i k new (omega (arith, h .running m .submitted)) past (b .1) in
-            (b .0, subst (Stage i k (p m) (w .running m) (w .decided) (withSubmit w j) (s .follows) (s .slot))
-            (sym (named-now (w .running j .given .slot) (w .steps) (a .slots j) (a .steps))) next))
+            let next = stage-overtaken i k new (omega (arith, h .running m .submitted)) past (b .1) in (
+              b .0,
+              subst (Stage i k (p m) (w .running m) (w .decided) (withSubmit w j) (s .follows) (s .slot))
+                  (sym (named-now (w .running j .given .slot) (w .steps) (a .slots j) (a .steps))) next,
+            ))
             i refl;
       }
 
@@ -281,14 +285,12 @@ module _ (i k : ℕ) where
   -- Of every run of which demand 3 holds.
   run-searched : (kind : Kind) (n : ℕ) (calls : List Call) (boards : List Board) (seen : List Seen) → Demand3 kind n calls boards seen
       → searchAnswer (beside (searchStep i k) searchStart calls seen) ≡ heldOvertaker (named (overtakerIn (watched calls seen) i k))
-  unfolding watched nothingYet overtakerIn searchAnswer named refOpened refIdle
+  unfolding overtakerIn searchAnswer named
   run-searched kind n calls boards seen d =
       let look = stepAt calls seen in
-      let moves : RunMoves (λ j. 0) calls seen = subst (RunMoves (λ j. 0) calls) (sym (d .asReference)) (run-moves kind n refOpened calls) in
-      let ahead : Ahead look 0 calls seen = λ k z. ap look (omega arith) in
-      let l = run-beside look (searchStep i k) (λ p w s. Marks look p w × Agrees p w s)
+      let l = watched-left (searchStep i k) calls seen (λ p w s. Marks look p w × Agrees p w s)
       (λ p q w x s call seen here moved h y. (marks-after moved h (y .0), agrees-after s call seen here moved h (y .0) (y .1)))
-      (λ j. 0) nothingYet searchStart (places-nothing look) (marks-nothing look, agrees-nothing) calls seen ahead moves in
+      searchStart (marks-nothing look, agrees-nothing) kind n boards d in
       stage-answers i k (l .kept .1 .stage .1)
 
   -- Lines: one of another form is refused, and the others are a run.

@@ -1,5 +1,5 @@
--- The operation asked for, member i's k-th, in the watcher's lists and in what the pass remembers: it waits for its submit, it runs, or it is
--- done. What each move of the watch does to that, over just what it looks at: the member's phase and operation, the decided operations
+-- The operation asked for, member i's k-th, in the watcher's lists and in what the pass remembers: it waits for its submit, it runs, or it
+-- is done. What each move of the watch does to that, over just what it looks at: the member's phase and operation, the decided operations
 -- and submits, and what is remembered.
 use Prim.Native.Nat.{ℕ, _+_, _≤_, _<_}
 use mathlib.Core.Path.{_≡_, refl, sym, ap, _∙_}
@@ -13,7 +13,7 @@ use Rattle.lists.specs.Every.{Every}
 use Rattle.lists.proofs.Functions.{on, fails, apart}
 use Rattle.model.specs.Records.{Value}
 use Rattle.model.specs.History.{Op, Submit, submittedOp, submitOf, decidedOp, endedOp, ended, overtakes}
-use Rattle.model.specs.Overtaker.{refuses, names, named, abortedOp, earlier, firstOvertaking, overtaking}
+use Rattle.model.specs.Overtaker.{names, named, abortedOp, earlier, firstOvertaking, overtaking}
 use Rattle.model.proofs.Overtaker.{op-found}
 use Rattle.overtaker.specs.Meaning.{heldOvertaker}
 use Rattle.overtaker.specs.Search.{orFirst}
@@ -184,7 +184,8 @@ module _ (i k : ℕ) where
     -- An operation of its member's is judged.
     pub stage-judges : (at : ℕ) (a : Bool) → o .given .member ≡ i → Every (λ s. s .at < at) submits
         → Stage 3 o ops submits follows slot first
-        → Stage (cond a 4 5) o (decidedOp at a o ∷ ops) submits (cond follows false follows) slot (cond follows (cond a (shown none) first) first)
+        → Stage (cond a 4 5) o (decidedOp at a o ∷ ops) submits (cond follows false follows) slot
+        (cond follows (cond a (shown none) first) first)
     unfolding decidedOp overtaking
     stage-judges at a m early (waits l p f s n) =
         let other : o .ordinal ≡ k → ⊥ = λ e. let d = p e in omega arith in

@@ -1,15 +1,13 @@
 -- What each step of the pass does, by what the code tests.
-use Prim.Native.Nat.{ℕ, _+_, _≤_}
-use mathlib.Core.Path.{_≡_, refl, sym, ap, _∙_}
-use mathlib.Core.Bool.{Bool, true, false, cond, _&&_, _||_}
-use mathlib.Core.Option.{none, some}
+use Prim.Native.Nat.{ℕ}
+use mathlib.Core.Path.{_≡_, sym, ap, _∙_}
+use mathlib.Core.Bool.{Bool, true, false, _&&_}
 use native.Mathlib.Omega.{arith}
 use lib.Dec.{eqb}
 use borrow.Author.Tests.{eq-eqb, ne-eqb}
 use Rattle.lists.specs.Functions.{put}
 use Rattle.lists.proofs.Functions.{on, fails}
-use Rattle.model.specs.Records.{Value}
-use Rattle.model.specs.Runs.{Call, begin, deliver, crash, Seen}
+use Rattle.model.specs.Runs.{Call, deliver, crash, Seen}
 use Rattle.model.specs.Overtaker.{refuses, names}
 use Rattle.script.specs.declared.Line.{Line}
 use Rattle.script_run.specs.Meaning.{callBy, Shows}

@@ -6,3 +6,4 @@ pub mod Tables
 pub mod Scripts
 pub mod Words
 pub mod HostWords
+pub mod Overtakers

@@ -15,7 +15,8 @@ use Rattle.lists.specs.Every.{Every}
 use Rattle.model.specs.Table.{tableSize, tableWords}
 use Rattle.model.specs.TableCalls.{openNumber, openWords, tableRun}
 use Rattle.model.specs.Script.{Line, writes, reads, delivers, crashes, malformed, lineOf, callOf, lineCall, withCall, callsOf}
-use Rattle.model.specs.Script.{stepped, stepLine, stepsFrom, linesOf, firstOf, mostSteps, boardRun, linesRun, scriptRun, printedRun, scriptOutput}
+use Rattle.model.specs.Script.{stepped, stepLine, stepsFrom, linesOf, firstOf, mostSteps, boardRun, linesRun, scriptRun, printedRun}
+use Rattle.model.specs.Script.{scriptOutput}
 use Rattle.laws.proofs.Tables.{length-table}
 use Rattle.runs.specs.Scripts.{stepCall, withSeen, seenOf, StepsRun, ScriptRun}
 use Rattle.runs.proofs.Held.{CallHeld}

@@ -5,3 +5,4 @@ pub mod Cases
 pub mod AuctionCases
 pub mod Scripts
 pub mod HostWords
+pub mod Overtakers

@@ -1,4 +1,4 @@
--- Every example holds: both sides are computed. Assumes nothing.
+-- Every example holds, of either program: both sides are computed. Assumes nothing.
 use mathlib.Core.Path.{refl}
 use Rattle.lists.specs.Every.{Every}
 use Rattle.lists.proofs.Functions.{_and_}
@@ -30,12 +30,17 @@ use Rattle.model.specs.Script.{oneNumber, twoNumbers, lineOf, textOf, firstOf, 
 use Rattle.model.specs.Script.{linesOf}
 use Rattle.model.specs.Script.{boardRun, linesRun, scriptRun, orDash, printedLine, lastWord, printedStep, printedSteps, boardLine}
 use Rattle.model.specs.Script.{refusedLine, printedRun, scriptOutput}
-use Rattle.script.specs.Examples.{Holds, examples}
+use Rattle.model.specs.Script.{withCall, callsOf}
+use Rattle.model.specs.History.{noOp, begunOp, submittedOp, submitOf, decidedOp, endedOp, ended, watchDeliver, watchCall, watchStep}
+use Rattle.model.specs.History.{watchFrom, nothingYet, watched}
+use Rattle.model.specs.Overtaker.{abortedOp, earlier, firstOvertaking, overtaking, overtakerIn, named, isCall, wellFormed}
+use Rattle.model.specs.Overtaker.{linesOvertaker, membersOvertaker, scriptOvertaker, overtaker, bothNumbers, askedBy, overtakerFor}
+use Rattle.model.specs.Overtaker.{printedOvertaker, overtakerOutput}
+use Rattle.script.specs.Examples.{Holds, examples, Answers, questions}
 
-pub every-example : Every Holds examples
-unfolding examples zeroRow zeroMatrix below matrixBelow comparable larger withCount zeroValue opening zeroRecord recordWithin isOperation
-    barred
-    becomesStored fieldsNumber kindNumber beginAnswer deliverAnswer crashAnswer idle begun answered check21 check22 check23 check24 check25
+pub every-example : Every Holds examples × Every Answers questions
+unfolding examples questions zeroRow zeroMatrix below matrixBelow comparable larger withCount zeroValue opening zeroRecord recordWithin
+    isOperation barred becomesStored fieldsNumber kindNumber beginAnswer deliverAnswer crashAnswer idle begun answered check21 check22 check23 check24 check25
     check26
     check27 haltNumber joined ownRecord passed failed replied judged completed tookOver dropped outcome returnedBy crashedOf submitted
     wins entryAfter storedAfter noEntry openingEntry opened withMember boardBegun submitTaken replyTaken sentRecord commitTaken
@@ -50,6 +55,12 @@ unfolding examples zeroRow zeroMatrix below matrixBelow comparable larger withCo
     digitsWithin
     digits digitsRead limited leadingZero numberOf oneNumber twoNumbers lineOf textOf firstOf callOf caller stepped stepLine stepsFrom
     withByte linesOf boardRun linesRun scriptRun orDash printedLine lastWord printedStep printedSteps boardLine refusedLine printedRun
-    scriptOutput
-every-example =
-    refl and refl and refl and refl and refl and refl and refl and refl and refl and refl and refl and refl and refl and refl and tt
+    scriptOutput noOp begunOp submittedOp submitOf decidedOp endedOp ended watchDeliver watchCall watchStep watchFrom nothingYet watched
+    withCall callsOf abortedOp earlier firstOvertaking overtaking overtakerIn named isCall wellFormed linesOvertaker membersOvertaker
+    scriptOvertaker overtaker bothNumbers askedBy overtakerFor printedOvertaker overtakerOutput
+every-example = (
+  refl and refl and refl and refl and refl and refl and refl and refl and refl and refl and refl and refl and refl and refl and tt,
+  refl and refl and refl and refl and refl and refl and refl and refl and refl and refl and refl and refl and refl and refl and
+      refl and refl and refl and refl and refl and refl and refl and refl and refl and refl and refl and refl and refl and refl and
+      refl and refl and refl and refl and refl and tt,
+)

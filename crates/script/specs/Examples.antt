@@ -1,9 +1,11 @@
--- Scripts and what the program prints of them: document 01's example, and the readings of docs/DECISIONS.md.
+-- Scripts and what the programs print of them: document 01's example, and the readings of docs/DECISIONS.md.
+use Prim.Native.Nat.{ℕ}
 use Prim.Native.String.{String}
 use mathlib.Core.Path.{_≡_}
 use mathlib.Core.List.{List, [], _∷_}
 use Rattle.model.specs.Kinds.{concur}
 use Rattle.model.specs.Script.{text, scriptOutput}
+use Rattle.model.specs.Overtaker.{overtakerOutput}
 
 pub record Example : Type 0 where
   pub input : String
@@ -43,4 +45,77 @@ examples =
     -- a member reads its own slot (document 02, (a)), here the only one
     ∷ ("members 1\nwrite 1 9\ndeliver 1\ndeliver 1\ndeliver 1\ndeliver 1\nread 1 1\ndeliver 1\ndeliver 1\ndeliver 1\ndeliver 1"
     prints "board 1\n1 0 1 -\n2 0 2 -\n3 0 3 -\n4 0 4 -\n5 0 0 -\n6 0 1 -\n7 0 2 -\n8 0 3 -\n9 0 4 -\n10 0 0 9\n")
+    ∷ []
+
+-- Who overtook an operation: a script, the number of arguments, the first two, and what is printed.
+pub record Question : Type 0 where
+  pub script : String
+  pub count : ℕ
+  pub first : String
+  pub second : String
+  pub output : String
+
+abbrev pub Answers : Question → Type 0
+Answers q = overtakerOutput (q .count) (text (q .first)) (text (q .second)) (text (q .script)) ≡ text (q .output)
+
+-- two arguments
+abbrev pub asks : String → String → String → String → Question
+asks script first second output = record { script = script; count = 2; first = first; second = second; output = output }
+
+-- some arguments for a script that would name member 2 and step 4
+abbrev pub asked : ℕ → String → String → String → Question
+asked count first second output = record {
+  script = "members 2\nwrite 1 7\ndeliver 1\nread 2 1\ndeliver 2\ndeliver 1\ndeliver 1\n";
+  count = count;
+  first = first;
+  second = second;
+  output = output;
+}
+
+unfoldable pub questions : List Question
+questions =
+    asked 2 "1" "1" "2 4\n"
+    -- arguments that are not two numbers: too few, too many, no digits, a leading zero, a sign, 2^32
+    ∷ asked 0 "" "" "17\n"
+    ∷ asked 1 "1" "" "17\n"
+    ∷ asked 3 "1" "1" "17\n"
+    ∷ asked 2 "" "1" "17\n"
+    ∷ asked 2 "1" "x" "17\n"
+    ∷ asked 2 "01" "1" "17\n"
+    ∷ asked 2 "1" "+1" "17\n"
+    ∷ asked 2 "1" "4294967296" "17\n"
+    -- no such member, no such ordinal, and an operation that never reached its verdict
+    ∷ asked 2 "0" "1" "31\n"
+    ∷ asked 2 "3" "1" "31\n"
+    ∷ asked 2 "1" "0" "31\n"
+    ∷ asked 2 "1" "2" "31\n"
+    ∷ asked 2 "1" "4294967295" "31\n"
+    ∷ asked 2 "2" "1" "31\n"
+    ∷ asks "members 2\nwrite 1 7\ndeliver 1\nread 2 1\ndeliver 2\ndeliver 1\n" "1" "1" "31\n"
+    -- an accepted one, though a submit came before its own, and one behind its verdict
+    ∷ asks "members 2\nread 2 1\ndeliver 2\nwrite 1 7\ndeliver 1\ndeliver 1\ndeliver 1\nread 2 1\ndeliver 2" "1" "1" "31\n"
+    ∷ asks "members 2\nwrite 1 7\ndeliver 1\ndeliver 1\ndeliver 1\nread 2 1\ndeliver 2\ndeliver 1" "1" "1" "31\n"
+    -- the first of several, not the last, and not the one of the lowest number
+    ∷ asks "members 3\nread 1 3\nread 2 3\nwrite 3 5\ndeliver 1\ndeliver 3\ndeliver 2\ndeliver 1\ndeliver 1" "1" "1" "3 5\n"
+    -- neither on another slot nor before its own submit
+    ∷ asks "members 3\nwrite 1 7\ndeliver 1\nread 2 3\ndeliver 2\nread 3 1\ndeliver 3\ndeliver 1\ndeliver 1" "1" "1" "3 6\n"
+    ∷ asks "members 3\nwrite 1 7\nread 3 1\ndeliver 3\ndeliver 1\nread 2 1\ndeliver 2\ndeliver 1\ndeliver 1" "1" "1" "2 6\n"
+    -- a crashed member's submit, and an abort that is never told
+    ∷ asks "members 2\nwrite 1 7\ndeliver 1\nread 2 1\ncrash 2\ndeliver 2\ndeliver 1\ncrash 1\ndeliver 1" "1" "1" "2 5\n"
+    -- refused begins have no ordinal, and refused steps have a number: the first and third lines here are refused
+    ∷ asks "members 2\nread 1 3\nwrite 1 7\nwrite 1 8\ndeliver 1\nread 2 1\ndeliver 2\ndeliver 1\ndeliver 1" "1" "1" "2 6\n"
+    -- ordinals go over all slots and both types
+    ∷ asks "members 2\nread 1 2\ndeliver 1\ndeliver 1\ndeliver 1\ndeliver 1\nread 1 1\ndeliver 1\nwrite 2 5\nread 2 1\ndeliver 2\ndeliver 2"
+    "1" "2" "31\n"
+    ∷ asks "members 2\nread 1 2\ndeliver 1\ndeliver 1\ndeliver 1\ndeliver 1\nread 1 1\ndeliver 1\nread 2 1\ndeliver 2\ndeliver 1\ndeliver 1"
+    "1" "2" "2 9\n"
+    -- a line of another form anywhere, also behind the verdict, comes before a bad n, and that before the operation
+    ∷ asks "" "1" "1" "17\n"
+    ∷ asks "member 2\n" "1" "1" "17\n"
+    ∷ asks "members 2" "1" "1" "31\n"
+    ∷ asks "members 2\n\n" "1" "1" "17\n"
+    ∷ asks "members 2\nwrite 1 7\ndeliver 1\nread 2 1\ndeliver 2\ndeliver 1\ndeliver 1\nmembers 2\n" "1" "1" "17\n"
+    ∷ asks "members 13\nwrite 1 7\n" "1" "1" "1\n"
+    ∷ asks "members 0\n" "1" "1" "1\n"
+    ∷ asks "members 13\nbid 1\n" "1" "1" "17\n"
     ∷ []

@@ -23,13 +23,12 @@ use crate::lines::begun;
 use crate::lines::end_line;
 use crate::lines::keep_byte;
 use crate::lines::no_step;
+pub use crate::lines::run_line;
 use script::LONGEST_PRINTED;
 use script::Line;
 use script::steps::print_board;
 use script::steps::print_line;
 use script::steps::print_refused;
-
-pub use crate::lines::run_line;
 
 // No line ended among the bytes taken.
 fn none_ended(progress: Progress, taken: usize) -> Fed

@@ -1,7 +1,7 @@
 -- `read` meets its contract: there are not two arguments, or the first or the second is no number, or both are.
 use borrow.Author.Needs.{needs}
-use mathlib.Core.Path.{_≡_, sym, _∙_}
-use mathlib.Core.Option.{none, some}
+use mathlib.Core.Path.{_≡_, sym}
+use mathlib.Core.Option.{some}
 use borrow.Author.Tests.{not-true, not-false}
 use Rattle.model.specs.Script.{numberOf}
 use Rattle.script.proofs.Reading.{held-none, held-some}

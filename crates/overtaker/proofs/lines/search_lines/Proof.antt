@@ -1,5 +1,5 @@
--- `search_lines` meets its contract: what the lines from here on give, with what is remembered, is what all give; and a line more is refused
--- or leaves that so.
+-- `search_lines` meets its contract: what the lines from here on give, with what is remembered, is what all give; and a line more is
+-- refused or leaves that so.
 use borrow.Author.Needs.{needs}
 use Prim.Native.Nat.{ℕ, _+_, _-_, _≤_}
 use mathlib.Core.Path.{_≡_, refl, sym, ap, _∙_}
@@ -25,7 +25,8 @@ record Passed (table₀ script : List ℕ) (i k at₀ : ℕ) (table : List ℕ) 
   short : length script ≤ mostBytes
   begun : search .begun ≤ search .steps
   steps : search .steps ≤ at
-  same : linesSearched i k table₀ searchStart (linesOf (drop at₀ script)) ≡ linesSearched i k table (searchOf search) (linesOf (drop at script))
+  same : linesSearched i k table₀ searchStart (linesOf (drop at₀ script))
+      ≡ linesSearched i k table (searchOf search) (linesOf (drop at script))
 
 abbrev Inv-loop : tie.InvT-loop
 Inv-loop table₀ script from member ordinal search₀ at₀ table search at = Passed table₀ script member ordinal at₀ table search at
@@ -49,7 +50,9 @@ next c =
 
 -- the bytes of the line
 abbrev line : tie.After-line-length Inv-loop μ-loop → List ℕ
-line c = let at = round c .before .loop .at in take (at + c .line-length .result - at) (drop at (start (round c .before) .args .script .now))
+line c =
+    let at = round c .before .loop .at in
+    take (at + c .line-length .result - at) (drop at (start (round c .before) .args .script .now))
 
 abbrev ran : tie.After-run-line Inv-loop μ-loop → tie.After-line-length Inv-loop μ-loop
 ran c = c .before .before .before
@@ -105,9 +108,13 @@ step-requires c κs =
     let run = ran-else c in
     let here = ran run in
     let l = round here .before in
-    let i = l .loop .inv in
-    (i .begun, (omega (arith, i .steps, i .short, round here .loop-test .taken),
-    line-made (l .loop .table) _ (run .run-line .result) (i .whole) (run .run-line .ensures .1)))
+    let i = l .loop .inv in (
+      i .begun,
+      (
+        omega (arith, i .steps, i .short, round here .loop-test .taken),
+        line-made (l .loop .table) _ (run .run-line .result) (i .whole) (run .run-line .ensures .1),
+      ),
+    )
 
 add-at : tie.Need-add-at Inv-loop μ-loop
 add-at c = let here = ran (ran-else (c .before)) in omega (arith, next here .within, round here .before .loop .inv .short)

@@ -1,6 +1,6 @@
 -- `find_asked` meets its contract: the arguments ask for no operation, or for one.
 use borrow.Author.Needs.{needs}
-use mathlib.Core.Path.{_≡_, sym, ap, _∙_}
+use mathlib.Core.Path.{sym, ap, _∙_}
 use borrow.Author.Tests.{not-true, not-false}
 use Rattle.overtaker.specs.Meaning.{heldOvertaker}
 use Rattle.overtaker.proofs.Answers.{nothing-asked, something-asked}
@@ -11,7 +11,8 @@ returns : tie.Need-returns
 returns c a e =
     let s = c .before .before .before .before .before in
     c .refused .ensures
-    ∙ ap heldOvertaker (sym (nothing-asked a (s .args .script .now) (s .args .asked) e (not-true (s .args .asked .ok) (c .before .if1 .taken))))
+    ∙ ap heldOvertaker (sym (nothing-asked a (s .args .script .now) (s .args .asked) e
+    (not-true (s .args .asked .ok) (c .before .if1 .taken))))
 
 find-on-requires : tie.Need-find-on-requires
 find-on-requires c κs = c .before .before .before .before .before .pre
@@ -22,7 +23,8 @@ returns-2 c a e =
     let asked = found .before .before in
     let s = asked .before .before .before .before in
     found .find-on .ensures
-    ∙ ap heldOvertaker (sym (something-asked a (s .args .script .now) (s .args .asked) e (not-false (s .args .asked .ok) (asked .if1 .left))))
+    ∙ ap heldOvertaker (sym (something-asked a (s .args .script .now) (s .args .asked) e
+    (not-false (s .args .asked .ok) (asked .if1 .left))))
 
 pub find-asked-spec : {M : Type 1} → statement M
 find-asked-spec =

@@ -49,8 +49,7 @@ search-board-requires : tie.Need-search-board-requires
 search-board-requires c κs =
     let sized = c .before in
     let s = asked sized in
-    let w = within (sized .before) in
-    (
+    let w = within (sized .before) in (
       record { least = inside-low 12 (s .args .n) w; most = inside-high 12 (s .args .n) w },
       (lent-long sized ∙ sized .table-size .ensures .0, s .pre .0),
     )

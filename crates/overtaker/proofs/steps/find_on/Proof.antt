@@ -1,5 +1,5 @@
--- `find_on` meets its contract: the script is too long, or has no line, or its first line is malformed; or that line names n, and the others
--- decide.
+-- `find_on` meets its contract: the script is too long, or has no line, or its first line is malformed; or that line names n, and the
+-- others decide.
 use borrow.Author.Needs.{needs}
 use Prim.Native.Nat.{ℕ, _≤_, _<_}
 use mathlib.Core.Path.{_≡_, sym, ap, _∙_}

@@ -1,7 +1,7 @@
 -- `print_answer` meets its contract: a refusal's number is one field, a member and a step are two, and these stand at the front.
 use borrow.Author.Needs.{needs}
 use Prim.Native.Nat.{_≤_, _+_}
-use mathlib.Core.Path.{_≡_, sym, ap, _∙_}
+use mathlib.Core.Path.{sym, ap, _∙_}
 use mathlib.Core.Bool.{true}
 use mathlib.Core.List.{_++_}
 use mathlib.Core.Option.{some}

@@ -1,7 +1,6 @@
 -- `step` meets its contract: the step is counted, and its call was refused, or it was answered 0 and is looked at.
 use borrow.Author.Needs.{needs}
-use Prim.Native.Nat.{_<_}
-use mathlib.Core.Path.{_≡_, sym, _∙_}
+use mathlib.Core.Path.{sym, _∙_}
 use native.Mathlib.Omega.{arith}
 use Rattle.overtaker.specs.Search.{Search, searchOf, searchNext}
 use Rattle.overtaker.proofs.Tests.{step-taken, step-refused}
