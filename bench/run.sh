@@ -42,6 +42,35 @@ program() {
     done
 }
 
+# The tool that names who overtook an operation beside the board program, on one script of 65,535 bytes: a hundred runs of each, by turns.
+overtaker() {
+    local board=target/bin/concur_board tool=target/bin/concur_overtaker times round
+    if [ ! -x "$board" ] || [ ! -x "$tool" ]; then
+        echo "the overtaker is not timed: there is no $board or no $tool (rt check concur_board concur_overtaker)"
+        return
+    fi
+    # Two members' operations on one slot cross, the next two's on the next; lines that are refused fill what is left.
+    awk 'BEGIN { print "members 12"; left = 65535 - 11
+        while (1) { m = k % 12 + 1; r = (k + 1) % 12 + 1; k++
+            s = "read " m " " r "\ndeliver " m "\nwrite " r " " k "\ndeliver " r "\n"
+            for (i = 0; i < 3; i++) s = s "deliver " m "\ndeliver " r "\n"
+            if (left - length(s) < 20) break
+            printf "%s", s; left -= length(s) }
+        while (left >= 20) { print "deliver 0"; left -= 10 }
+        printf "write 0 "; for (left -= 9; left > 0; left--) printf "1"; print "" }' >"$out/script"
+    [ "$(wc -c <"$out/script")" -eq 65535 ]
+    [ "$("$tool" 1 1 <"$out/script")" = "2 4" ]
+    for round in $(seq 100); do
+        times=${EPOCHREALTIME/./}
+        "$board" <"$out/script" >"$out/printed"
+        times="$times ${EPOCHREALTIME/./}"
+        "$tool" 1 1 <"$out/script" >"$out/printed"
+        echo "$times ${EPOCHREALTIME/./}"
+    done | awk '{ a = $2 - $1; b = $3 - $2; if (NR == 1 || a < board) board = a; if (NR == 1 || b < tool) tool = b }
+        END { printf "65,535 bytes, the best of %d runs: concur_board %d us, concur_overtaker %d us, ratio %.2f\n",
+            NR, board, tool, tool / board }'
+}
+
 # earlier CRATE PROGRAM: bench/PROGRAM.rs with the crate's archive here and, each of its functions under another name, the revision's. They
 # are linked in either order: the one that comes first lies otherwise in memory, and that alone moves a figure by some percent.
 earlier() {
@@ -66,3 +95,4 @@ timed messages target/staticlib/libtest_calls.a target/staticlib/libmessages.a
 archive board
 timed board target/staticlib/libboard.a
 program
+overtaker

@@ -18,7 +18,7 @@ use Rattle.model.specs.Reference.{refIdle, refOpened}
 use Rattle.model.specs.History.{Op, Submit, Watch, nothingYet, watched, overtakes, contested}
 use Rattle.model.specs.Positions.{stepAt, IsDeliver, begunCount, Decided, Placed, AllPlaced}
 use Rattle.model.specs.Demand3.{Demand3}
-use Rattle.model.specs.Overtaker.{abortedOp, earlier, firstOvertaking, overtaking, overtakerIn}
+use Rattle.model.specs.Overtaker.{isAborted, abortedOp, earlier, firstOvertaking, overtaking, overtakerIn}
 use Rattle.model.specs.OvertakerClaims.{slotBegun, TakesSubmit, Aborted, Overtook, Answered}
 use Rattle.model.proofs.HistoryLists.{every}
 use Rattle.model.proofs.Phases.{RunMoves, run-moves}
@@ -52,25 +52,31 @@ pub record FoundOp (i k : ℕ) (ops : List Op) (o : Op) : Type 1 where
   pub listed : (P : Op → Type 0) → Every P ops → P o
 
 module _ (i k : ℕ) where
-  abbrev fits : Op → Bool
-  fits o = eqb (o .given .member) i && (eqb (o .ordinal) k && not (o .accepted))
-
   not-true : (b : Bool) → not b ≡ true → b ≡ false
   not-true true e = sym e
   not-true false e = refl
 
+  -- what the test says
+  pub is-aborted : (o : Op) → isAborted i k o ≡ true → (o .given .member ≡ i) × (o .ordinal ≡ k) × (o .accepted ≡ false)
+  unfolding isAborted
+  is-aborted o f =
+      let rest = second (eqb (o .given .member) i) (eqb (o .ordinal) k && not (o .accepted)) f in (
+        eqb-true (o .given .member) i (first (eqb (o .given .member) i) (eqb (o .ordinal) k && not (o .accepted)) f),
+        eqb-true (o .ordinal) k (first (eqb (o .ordinal) k) (not (o .accepted)) rest),
+        not-true (o .accepted) (second (eqb (o .ordinal) k) (not (o .accepted)) rest),
+      )
+
+  pub so-aborted : (o : Op) → o .given .member ≡ i → o .ordinal ≡ k → o .accepted ≡ false → isAborted i k o ≡ true
+  unfolding isAborted
+  so-aborted o m n a = both (eq-eqb (o .given .member) i m) (both (eq-eqb (o .ordinal) k n) (ap not a))
+
   pub op-found : (ops : List Op) (o : Op) → abortedOp i k ops ≡ some o → FoundOp i k ops o
   unfolding abortedOp
   op-found [] o e = absurd (none-or-some e)
-  op-found (x ∷ ops) o e = on (fits x)
+  op-found (x ∷ ops) o e = on (isAborted i k x)
       (λ f. let same : x ≡ o = (cc (rw f at e)) in
-      let rest = second (eqb (x .given .member) i) (eqb (x .ordinal) k && not (x .accepted)) f in
-      subst (FoundOp i k (x ∷ ops)) same (record {
-        member = eqb-true (x .given .member) i (first (eqb (x .given .member) i) (eqb (x .ordinal) k && not (x .accepted)) f);
-        ordinal = eqb-true (x .ordinal) k (first (eqb (x .ordinal) k) (not (x .accepted)) rest);
-        aborted = not-true (x .accepted) (second (eqb (x .ordinal) k) (not (x .accepted)) rest);
-        listed = λ P h. h .0;
-      }))
+      let t = is-aborted x f in
+      subst (FoundOp i k (x ∷ ops)) same (record { member = t .0; ordinal = t .1; aborted = t .2; listed = λ P h. h .0 }))
       (λ f. let d = op-found ops o (rw f at e) in
       record { member = d .member; ordinal = d .ordinal; aborted = d .aborted; listed = λ P h. d .listed P (h .1) })
 
@@ -79,12 +85,9 @@ module _ (i k : ℕ) where
       → Every (λ o. o .given .member ≡ i → o .ordinal ≡ k → o .accepted ≡ false → ⊥) ops
   unfolding abortedOp
   op-none [] e = tt
-  op-none (x ∷ ops) e = on (fits x)
+  op-none (x ∷ ops) e = on (isAborted i k x)
       (λ f. absurd (none-or-some (sym (rw f at e))))
-      (λ f. (
-        (λ m n a. apart (both (eq-eqb (x .given .member) i m) (both (eq-eqb (x .ordinal) k n) (ap not a))) f),
-        op-none ops (rw f at e),
-      ))
+      (λ f. ((λ m n a. apart (so-aborted x m n a) f), op-none ops (rw f at e)))
 
 -- the submit that was found is one of the list's, it overtakes, and it is the earliest that does
 record FoundSubmit (o : Op) (submits : List Submit) (s : Submit) : Type 1 where

@@ -16,12 +16,14 @@ use Rattle.model.specs.Script.{space, lineFeed, numberOf, firstOf, lineC
 
 -- Of a run.
 
--- "a member and an ordinal, from 1, among that member's begins that were answered 0": that operation, if the host's verdict on it was
--- aborted
+-- "a member and an ordinal, from 1, among that member's begins that were answered 0": whether it is that operation, and the host's verdict
+-- on it was aborted
+unfoldable pub isAborted : ℕ → ℕ → Op → Bool
+isAborted i k o = eqb (o .given .member) i && (eqb (o .ordinal) k && not (o .accepted))
+
 unfoldable pub abortedOp : ℕ → ℕ → List Op → Option Op
 abortedOp i k [] = none
-abortedOp i k (o ∷ ops) =
-    cond (eqb (o .given .member) i && (eqb (o .ordinal) k && not (o .accepted))) (some o) (abortedOp i k ops)
+abortedOp i k (o ∷ ops) = cond (isAborted i k o) (some o) (abortedOp i k ops)
 
 unfoldable pub earlier : Option Submit → Option Submit → Option Submit
 earlier none later = later

@@ -13,8 +13,8 @@ use Rattle.lists.specs.Every.{Every}
 use Rattle.lists.proofs.Functions.{on, fails, apart}
 use Rattle.model.specs.Records.{Value}
 use Rattle.model.specs.History.{Op, Submit, submittedOp, submitOf, decidedOp, endedOp, ended, overtakes}
-use Rattle.model.specs.Overtaker.{names, named, abortedOp, earlier, firstOvertaking, overtaking}
-use Rattle.model.proofs.Overtaker.{op-found}
+use Rattle.model.specs.Overtaker.{names, named, isAborted, abortedOp, earlier, firstOvertaking, overtaking}
+use Rattle.model.proofs.Overtaker.{is-aborted, so-aborted, op-found}
 use Rattle.overtaker.specs.Meaning.{heldOvertaker}
 use Rattle.overtaker.specs.Search.{orFirst}
 use Rattle.overtaker.specs.declared.Overtaker.{Overtaker}
@@ -72,18 +72,14 @@ module _ (i k : ℕ) where
   aborted-other : (o : Op) (ops : List Op) → (o .given .member ≡ i → o .ordinal ≡ k → o .accepted ≡ false → ⊥)
       → abortedOp i k (o ∷ ops) ≡ abortedOp i k ops
   unfolding abortedOp
-  aborted-other o ops h = on (eqb (o .given .member) i)
-      (λ m. on (eqb (o .ordinal) k)
-      (λ n. on (o .accepted)
-      (λ a. rw (m, n, a))
-      (λ a. absurd (h (eqb-true (o .given .member) i m) (eqb-true (o .ordinal) k n) a)))
-      (λ n. rw (m, n)))
-      (λ m. rw m)
+  aborted-other o ops h = on (isAborted i k o)
+      (λ f. let t = is-aborted i k o f in absurd (h (t .0) (t .1) (t .2)))
+      (λ f. rw f)
 
   aborted-found : (o : Op) (ops : List Op) → o .given .member ≡ i → o .ordinal ≡ k → o .accepted ≡ false
       → abortedOp i k (o ∷ ops) ≡ some o
   unfolding abortedOp
-  aborted-found o ops m n a = rw (eq-eqb (o .given .member) i m, eq-eqb (o .ordinal) k n, a)
+  aborted-found o ops m n a = rw (so-aborted i k o m n a)
 
   -- an operation's end is of no account
   ended-first : (at : ℕ) (v : Option Value) (o : Op) (submits : List Submit)
@@ -92,24 +88,28 @@ module _ (i k : ℕ) where
   ended-first at v o [] = refl
   ended-first at v o (s ∷ submits) = ap (λ x. earlier x (cond (overtakes s o) (some s) none)) (ended-first at v o submits)
 
+  ended-aborted : (at : ℕ) (v : Option Value) (o : Op) → isAborted i k (endedOp at v o) ≡ isAborted i k o
+  unfolding isAborted endedOp
+  ended-aborted at v o = refl
+
   ended-overtaking : (j at : ℕ) (v : Option Value) (submits : List Submit) (ops : List Op)
       → overtaking (abortedOp i k (ended j at v ops)) submits ≡ overtaking (abortedOp i k ops) submits
-  unfolding abortedOp ended endedOp overtaking
+  unfolding abortedOp ended overtaking
   ended-overtaking j at v submits [] = refl
   ended-overtaking j at v submits (o ∷ ops) =
-      let fits = eqb (o .given .member) i && (eqb (o .ordinal) k && not (o .accepted)) in
       on (eqb (o .given .member) j)
-      (λ e. on fits (λ f. rw (e, f) (ended-first at v o submits)) (λ f. rw (e, f)))
-      (λ e. on fits (λ f. rw (e, f)) (λ f. rw (e, f) (ended-overtaking j at v submits ops)))
+      (λ e. on (isAborted i k o) (λ f. rw (e, ended-aborted at v o, f) (ended-first at v o submits)) (λ f. rw (e, ended-aborted at v o, f)))
+      (λ e. on (isAborted i k o) (λ f. rw (e, f)) (λ f. rw (e, f) (ended-overtaking j at v submits ops)))
 
   ended-none : (j at : ℕ) (v : Option Value) (ops : List Op) → abortedOp i k ops ≡ none → abortedOp i k (ended j at v ops) ≡ none
-  unfolding abortedOp ended endedOp
+  unfolding abortedOp ended
   ended-none j at v [] h = refl
   ended-none j at v (o ∷ ops) h =
-      let fits = eqb (o .given .member) i && (eqb (o .ordinal) k && not (o .accepted)) in
-      on (eqb (o .given .member) j)
-      (λ e. on fits (λ f. absurd (some-or-none (rw f at h))) (λ f. rw (e, f) (rw f at h)))
-      (λ e. on fits (λ f. absurd (some-or-none (rw f at h))) (λ f. rw (e, f) (ended-none j at v ops (rw f at h))))
+      on (isAborted i k o)
+      (λ f. absurd (some-or-none (rw f at h)))
+      (λ f. on (eqb (o .given .member) j)
+      (λ e. rw (e, ended-aborted at v o, f) (rw f at h))
+      (λ e. rw (e, f) (ended-none j at v ops (rw f at h))))
 
   -- The operation asked for.
 

@@ -62,7 +62,8 @@ impl Search {
             self.slot = slot;
             return self;
         }
-        if !self.follows {
+        let counts = self.follows;
+        if !counts {
             return self;
         }
         if slot != self.slot {

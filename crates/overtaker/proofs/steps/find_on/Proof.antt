@@ -31,7 +31,7 @@ script c = start c .args .script .now
 
 -- of bytes that are a script: few enough, and at least one
 few : (c : tie.After-line-length) → length (script c) ≤ mostBytes
-few c = c .before .before .if1 .left
+few c = omega (arith, c .before .before .if1 .left)
 
 some-bytes : (c : tie.After-line-length) → 0 < length (script c)
 some-bytes c = let n = c .before .if2 .left in search needs
