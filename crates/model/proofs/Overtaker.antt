@@ -16,10 +16,11 @@ use Rattle.model.specs.Board.{Board}
 use Rattle.model.specs.Runs.{Call, begin, deliver, crash, Seen, Step, step}
 use Rattle.model.specs.Reference.{refIdle, refOpened}
 use Rattle.model.specs.History.{Op, Submit, Watch, nothingYet, watched, overtakes, contested}
-use Rattle.model.specs.Positions.{stepAt, IsDeliver, begunCount, Decided, Placed, AllPlaced}
+use Rattle.model.specs.Positions.{stepAt, IsDeliver, beganBy, begunCount, Decided, Placed, AllPlaced}
 use Rattle.model.specs.Demand3.{Demand3}
 use Rattle.model.specs.Overtaker.{isAborted, abortedOp, earlier, firstOvertaking, overtaking, overtakerIn}
-use Rattle.model.specs.OvertakerClaims.{slotBegun, TakesSubmit, Aborted, Overtook, Answered}
+use Rattle.model.specs.OvertakerClaims.{slotAfter, slotBegun, TakesSubmit, Aborted, Overtook, Answered, sampleCalls, sampleSeen}
+use Rattle.model.specs.OvertakerClaims.{SampleOvertaken}
 use Rattle.model.proofs.HistoryLists.{every}
 use Rattle.model.proofs.Phases.{RunMoves, run-moves}
 use Rattle.model.proofs.PositionsInvariant.{Moved, Places}
@@ -308,3 +309,39 @@ overtaker-answered kind n calls boards seen d i k =
     let l = watched-left {T = Unit {0}} (λ t call s. t) calls seen (λ p w t. Marks (stepAt calls seen) p w)
     (λ p q w x t call s here. marks-after) tt (marks-nothing (stepAt calls seen)) kind n boards d in
     op-answered calls seen (l .phases) w (l .places) (l .kept) (d .positions .complete) i k (d .aborts) (abortedOp i k (w .decided)) refl
+
+-- The words of the claim, on a run by hand: every position is computed.
+abbrev sampleAt : ℕ → Option Step
+sampleAt = stepAt sampleCalls sampleSeen
+
+pub sample-overtaken : SampleOvertaken sampleAt
+unfolding stepAt slotBegun slotAfter begunCount beganBy
+sample-overtaken =
+    let aborted : Aborted sampleAt 1 1 2 7 = record {
+      submit = (refl, refl, refl, refl);
+      verdict = (refl, refl, refl, refl);
+      itsSubmit = refl;
+      itsVerdict = refl;
+    } in
+    record {
+      slots = (refl, (refl, refl));
+      takes = (((refl, refl, refl, refl), refl), ((refl, refl, refl, refl), refl));
+      takesNot = ((λ t. omega (arith, t .1)), ((λ t. omega (arith, t .0 .0)), (λ t. omega (arith, t .0 .2))));
+      aborted = aborted;
+      abortedNot = ((λ a. omega (arith, a .itsSubmit)), ((λ a. omega (arith, a .verdict .2)), (λ a. omega (arith, a .verdict .0))));
+      overtook = record {
+        submitAt = 2;
+        verdictAt = 7;
+        aborted = aborted;
+        takes = ((refl, refl, refl, refl), refl);
+        between = (omega arith, omega arith);
+        first = λ u m l h t. on (eqb u 3)
+            (λ e. subst (λ x. IsDeliver m 2 none (sampleAt x)) (eqb-true u 3 e) (t .0))
+            (λ e. let d = eqb-false u 3 e in let four : u ≡ 4 = omega arith in subst (λ x. IsDeliver m 2 none (sampleAt x)) four (t .0));
+      };
+      overtookNot = λ o. let a = o .submitAt in
+          on (eqb a 0)
+          (λ e. subst (λ x. IsDeliver 1 2 none (sampleAt x)) (eqb-true a 0 e) (o .aborted .submit))
+          (λ e. let d = eqb-false a 0 e in let one : a ≡ 1 = omega (arith, o .between .0) in
+          subst (λ x. IsDeliver 1 2 none (sampleAt x)) one (o .aborted .submit));
+    }

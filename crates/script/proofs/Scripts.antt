@@ -40,9 +40,8 @@ use Rattle.script.specs.Examples.{Holds, examples, Answers, questions}
 
 pub every-example : Every Holds examples × Every Answers questions
 unfolding examples questions zeroRow zeroMatrix below matrixBelow comparable larger withCount zeroValue opening zeroRecord recordWithin
-    isOperation barred becomesStored fieldsNumber kindNumber beginAnswer deliverAnswer crashAnswer idle begun answered check21 check22 check23 check24 check25
-    check26
-    check27 haltNumber joined ownRecord passed failed replied judged completed tookOver dropped outcome returnedBy crashedOf submitted
+    isOperation barred becomesStored fieldsNumber kindNumber beginAnswer deliverAnswer crashAnswer idle begun answered check21
+    check22 check23 check24 check25 check26 check27 haltNumber joined ownRecord passed failed replied judged completed tookOver dropped outcome returnedBy crashedOf submitted
     wins entryAfter storedAfter noEntry openingEntry opened withMember boardBegun submitTaken replyTaken sentRecord commitTaken
     outcomeTaken boardDelivered boardReturned boardCrashed answerOf done doneReturns after seenAt run recordSize rowOf matrixOf
     valueOf recordOf matrixWord recordWords acceptedAt lastAt pendingAt knownAt firstAt secondAt blockSize newestAt entrySize
@@ -56,8 +55,8 @@ unfolding examples questions zeroRow zeroMatrix below matrixBelow comparable lar
     digits digitsRead limited leadingZero numberOf oneNumber twoNumbers lineOf textOf firstOf callOf caller stepped stepLine stepsFrom
     withByte linesOf boardRun linesRun scriptRun orDash printedLine lastWord printedStep printedSteps boardLine refusedLine printedRun
     scriptOutput noOp begunOp submittedOp submitOf decidedOp endedOp ended watchDeliver watchCall watchStep watchFrom nothingYet watched
-    withCall callsOf isAborted abortedOp earlier firstOvertaking overtaking overtakerIn named isCall wellFormed linesOvertaker membersOvertaker
-    scriptOvertaker overtaker bothNumbers askedBy overtakerFor printedOvertaker overtakerOutput
+    withCall callsOf isAborted abortedOp earlier firstOvertaking overtaking overtakerIn named isCall wellFormed linesOvertaker
+    membersOvertaker scriptOvertaker overtaker bothNumbers askedBy overtakerFor printedOvertaker overtakerOutput
 every-example = (
   refl and refl and refl and refl and refl and refl and refl and refl and refl and refl and refl and refl and refl and refl and tt,
   refl and refl and refl and refl and refl and refl and refl and refl and refl and refl and refl and refl and refl and refl and
