@@ -17,6 +17,7 @@ use script::line_length;
 use script::parse_line;
 use script_run::steps::run_line;
 
+// Have all the form of a step?
 pub fn well_formed(script: &[u8], from: usize) -> bool
     requires { ⌜ length (now script) ≤ mostBytes ⌝ }
     ensures { λ r. ⌜ r ≡ wellFormed (linesOf (drop from (now (script .entry)))) ⌝ }
@@ -33,6 +34,7 @@ pub fn well_formed(script: &[u8], from: usize) -> bool
     true
 }
 
+// Each line run on the table that the one before left: 17 at the first of another form, else what is remembered in the end.
 pub fn search_lines(
     table: &mut [u32],
     script: &[u8],
