@@ -41,7 +41,8 @@ use Rattle.script.specs.Examples.{Holds, examples, Answers, questions}
 pub every-example : Every Holds examples × Every Answers questions
 unfolding examples questions zeroRow zeroMatrix below matrixBelow comparable larger withCount zeroValue opening zeroRecord recordWithin
     isOperation barred becomesStored fieldsNumber kindNumber beginAnswer deliverAnswer crashAnswer idle begun answered check21
-    check22 check23 check24 check25 check26 check27 haltNumber joined ownRecord passed failed replied judged completed tookOver dropped outcome returnedBy crashedOf submitted
+    check22 check23 check24 check25 check26 check27 haltNumber joined ownRecord passed failed replied judged completed tookOver dropped
+    outcome returnedBy crashedOf submitted
     wins entryAfter storedAfter noEntry openingEntry opened withMember boardBegun submitTaken replyTaken sentRecord commitTaken
     outcomeTaken boardDelivered boardReturned boardCrashed answerOf done doneReturns after seenAt run recordSize rowOf matrixOf
     valueOf recordOf matrixWord recordWords acceptedAt lastAt pendingAt knownAt firstAt secondAt blockSize newestAt entrySize

@@ -11,8 +11,11 @@ use Rattle.concur_board.proofs.read_piece.Tie as tie
 
 -- The places.
 
+abbrev lent-all : tie.After-slice-known4 → tie.Start
+lent-all c = c .before .before .before .before
+
 abbrev start : tie.After-read-some → tie.Start
-start c = c .before .before .before .before .before .before
+start c = lent-all (c .before .before)
 
 abbrev failed : tie.Then1 → tie.After-read-some
 failed c = c .before .before .before .before
@@ -23,8 +26,11 @@ read c = c .before .before .before .before
 abbrev lent : tie.After-take-piece-arg3 → tie.After-read-some
 lent c = read (c .before .before .before)
 
+abbrev two-back : tie.After-slice-known7 → tie.After-take-piece
+two-back c = c .before .before .before .before
+
 abbrev back : tie.After-slice-known8 → tie.After-take-piece
-back c = c .before .before .before .before .before .before
+back c = two-back (c .before .before)
 
 -- The needs.
 

@@ -31,11 +31,17 @@ abbrev μ-loop : tie.MeasureT-loop
 
 -- The places.
 
+abbrev two-back : tie.After-slice-known6 Inv-loop μ-loop → tie.After-read-piece Inv-loop μ-loop
+two-back c = c .before .before .before .before
+
 abbrev read-back : tie.After-slice-known8 Inv-loop μ-loop → tie.After-read-piece Inv-loop μ-loop
-read-back c = c .before .before .before .before .before .before .before .before
+read-back c = two-back (c .before .before .before .before)
+
+abbrev turn : tie.After-read-piece-arg Inv-loop μ-loop → tie.At-loop Inv-loop μ-loop
+turn c = c .before .before
 
 abbrev round : tie.After-read-piece Inv-loop μ-loop → tie.At-loop Inv-loop μ-loop
-round c = c .before .before .before .before .before .before
+round c = turn (c .before .before .before .before)
 
 abbrev written : tie.After-write-out-arg Inv-loop μ-loop → tie.After-finish Inv-loop μ-loop
 written c = c .before .before .before .before .before

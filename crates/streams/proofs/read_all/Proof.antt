@@ -42,14 +42,21 @@ got c =
       within = omega (arith, r .ensures, rest, l .inv .0);
     }
 
+-- the part that was lent is back
+abbrev back : tie.After-struct-known Inv-loop μ-loop → tie.After-read-some Inv-loop μ-loop
+back c = c .before .before .before
+
 abbrev failed : tie.Then1 Inv-loop μ-loop → tie.After-read-some Inv-loop μ-loop
-failed c = c .before .before .before .before
+failed c = back (c .before)
+
+abbrev read : tie.Else1 Inv-loop μ-loop → tie.After-read-some Inv-loop μ-loop
+read c = back (c .before)
 
 abbrev ended : tie.Then2 Inv-loop μ-loop → tie.After-read-some Inv-loop μ-loop
-ended c = c .before .before .before .before .before .before
+ended c = read (c .before .before)
 
 abbrev went : tie.After-struct-known3 Inv-loop μ-loop → tie.After-read-some Inv-loop μ-loop
-went c = c .before .before .before .before .before .before .before
+went c = read (c .before .before .before)
 
 -- The needs.
 

@@ -5,8 +5,11 @@ use Rattle.overtaker.proofs.Answers.{answer-numbered}
 use Rattle.overtaker.proofs.steps.answer.Statement.{statement}
 use Rattle.overtaker.proofs.steps.answer.Tie as tie
 
+abbrev lent : tie.After-print-answer-arg → tie.Start
+lent c = c .before .before .before .before
+
 abbrev start : tie.After-find-asked → tie.Start
-start c = c .before .before .before .before .before .before
+start c = lent (c .before .before)
 
 find-asked-requires : tie.Need-find-asked-requires
 find-asked-requires c κs = c .before .before .before .before .before .pre .0
