@@ -34,4 +34,9 @@ pub mod HostPrinted
 pub mod HostHalf
 pub mod PublishedHost
 pub mod OvertakerMarks
+pub mod Verdicts
 pub mod Overtaker
+pub mod OwnCalls
+pub mod LeftOut
+pub mod AcceptedOps
+pub mod Cause

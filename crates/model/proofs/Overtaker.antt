@@ -8,7 +8,7 @@ use mathlib.Core.Logic.{_⊎_, inl, inr, ⊎-elim}
 use mathlib.Core.Option.{Option, none, some}
 use native.Mathlib.Omega.{arith}
 use lib.Dec.{eqb, ltb}
-use borrow.Author.Tests.{eq-eqb, lt-ltb, eqb-true, eqb-false, ltb-true}
+use borrow.Author.Tests.{eq-eqb, lt-ltb, eqb-true, eqb-false, ltb-true, not-true}
 use Rattle.lists.specs.Every.{Every, Some}
 use Rattle.lists.proofs.Functions.{on, both, first, second, apart}
 use Rattle.model.specs.Kinds.{Kind}
@@ -26,23 +26,11 @@ use Rattle.model.proofs.Phases.{RunMoves, run-moves}
 use Rattle.model.proofs.PositionsInvariant.{Moved, Places}
 use Rattle.model.proofs.Positions.{Ahead, Left, beside, run-beside, places-nothing}
 use Rattle.model.proofs.OvertakerMarks.{Judged, Falling, Marks, marks-after, marks-nothing}
+use Rattle.model.proofs.Verdicts.{OneOf, one-of, placed-at, five-aborts, judged-at}
 
 -- Lists of operations and submits.
 
--- one of which P holds, with all that holds of each
-record OneOf {A : Type 0} (P : A → Type 0) (l : List A) : Type 1 where
-  one : A
-  holds : P one
-  listed : (Q : A → Type 0) → Every Q l → Q one
-
-one-of : {A : Type 0} (P : A → Type 0) (l : List A) → Some P l → OneOf P l
-one-of P [] s = absurd s
-one-of P (x ∷ l) s = ⊎-elim
-    (λ y. record { one = x; holds = y; listed = λ Q h. h .0 })
-    (λ y. let o = one-of P l y in record { one = o .one; holds = o .holds; listed = λ Q h. o .listed Q (h .1) })
-    s
-
-none-or-some : {A : Type 0} {x : A} → _≡_ {A = Option A} none (some x) → ⊥
+pub none-or-some : {A : Type 0} {x : A} → _≡_ {A = Option A} none (some x) → ⊥
 none-or-some e = let z : _≡_ {A = ℕ} 0 1 = cc in omega arith
 
 -- the operation that was found is one of the list's, and what holds of each holds of it
@@ -53,10 +41,6 @@ pub record FoundOp (i k : ℕ) (ops : List Op) (o : Op) : Type 1 where
   pub listed : (P : Op → Type 0) → Every P ops → P o
 
 module _ (i k : ℕ) where
-  not-true : (b : Bool) → not b ≡ true → b ≡ false
-  not-true true e = sym e
-  not-true false e = refl
-
   -- what the test says
   pub is-aborted : (o : Op) → isAborted i k o ≡ true → (o .given .member ≡ i) × (o .ordinal ≡ k) × (o .accepted ≡ false)
   unfolding isAborted
@@ -82,7 +66,7 @@ module _ (i k : ℕ) where
       record { member = d .member; ordinal = d .ordinal; aborted = d .aborted; listed = λ P h. d .listed P (h .1) })
 
   -- where none was found, none is such
-  op-none : (ops : List Op) → abortedOp i k ops ≡ none
+  pub op-none : (ops : List Op) → abortedOp i k ops ≡ none
       → Every (λ o. o .given .member ≡ i → o .ordinal ≡ k → o .accepted ≡ false → ⊥) ops
   unfolding abortedOp
   op-none [] e = tt
@@ -140,55 +124,15 @@ module _ (o : Op) where
       (λ f. absurd (none-or-some (rw f at (here .1)))))
       (earlier-either (firstOvertaking o submits) (cond (overtakes x o) (some x) none) s e)
 
--- A deliver, answered 0, of a run whose steps all have their place: it took a submit, or it aborted an operation.
+-- every operation was aborted exactly when it was contested
+abbrev pub Aborts : Watch → Type 0
+Aborts w = Every (λ o. o .accepted ≡ not (contested o (w .submits))) (w .decided)
 
-record DeliverPlaced (w : Watch) (at i p : ℕ) : Type 0 where
-  submit : p ≡ 2 → Some (λ u. (u .member ≡ i) × (u .at ≡ at)) (w .submits)
-  verdict : p ≡ 5 → Some (λ o. (o .given .member ≡ i) × (o .verdictAt ≡ at)) (w .decided)
-
-placed-here : (w : Watch) (at : ℕ) (call : Call) (s : Seen) → (s .answer ≡ 0 → Placed w at call s) → (i p : ℕ)
-    → IsDeliver i p none (some (step call s)) → DeliverPlaced w at i p
-placed-here w at (begin j r t v) s a i p d = absurd d
-placed-here w at (deliver j) s a i p d =
-    let phase : s .phases j ≡ p = ap (s .phases) (d .0) ∙ d .2 in
-    let whose : j ≡ i = d .0 in
-    let here = a (d .1) in
-    record {
-      submit = λ e. rw (← whose) (here .1 (phase ∙ e));
-      verdict = λ e. rw (← whose) (here .2 (inr (phase ∙ e)));
-    }
-placed-here w at (crash j) s a i p d = absurd d
-
-no-step : (calls : List Call) (seen : List Seen) → stepAt calls seen 0 ≡ none
-unfolding stepAt
-no-step [] seen = refl
-no-step (call ∷ calls) [] = refl
-no-step (call ∷ calls) (s ∷ seen) = no-step calls seen
-
-deliver-placed : (w : Watch) (from : ℕ) (calls : List Call) (seen : List Seen) → AllPlaced w (from + 1) calls seen → (k i p : ℕ)
-    → IsDeliver i p none (stepAt calls seen k) → DeliverPlaced w (from + k) i p
-unfolding stepAt
-deliver-placed w from [] seen a k i p d = absurd d
-deliver-placed w from (call ∷ calls) [] a k i p d = absurd d
-deliver-placed w from (call ∷ calls) (s ∷ seen) a k i p d = on (eqb k 1)
-    (λ e. let one : k ≡ 1 = eqb-true k 1 e in rw one (placed-here w (from + 1) call s (a .0) i p (rw e at d)))
-    (λ e. on (eqb k 0)
-    (λ z. let none-left : k - 1 ≡ 0 = (let o = eqb-true k 0 z in omega arith) in
-    absurd (subst (IsDeliver i p none) (ap (stepAt calls seen) none-left ∙ no-step calls seen) (rw e at d)))
-    (λ z. let more : from + 1 + (k - 1) ≡ from + k = (let o = eqb-false k 0 z in omega arith) in
-    subst (λ at. DeliverPlaced w at i p) more (deliver-placed w (from + 1) calls seen (a .1) (k - 1) i p (rw e at d))))
-
--- A step is followed by one phase.
-
-same-phase : (x : Option Step) (i p q : ℕ) → IsDeliver i p none x → IsDeliver i q none x → p ≡ q
-same-phase none i p q d e = absurd d
-same-phase (some (step (begin j r t v) s)) i p q d e = absurd d
-same-phase (some (step (deliver j) s)) i p q d e = sym (d .2) ∙ e .2
-same-phase (some (step (crash j) s)) i p q d e = absurd d
-
-five-aborts : (a : Bool) → _≡_ {A = ℕ} (cond a 4 5) 5 → a ≡ false
-five-aborts true e = absurd (omega arith)
-five-aborts false e = refl
+-- so that a submit is found that overtook an aborted one
+pub aborted-contested : {i k : ℕ} {o : Op} (w : Watch) → Aborts w → FoundOp i k (w .decided) o → firstOvertaking o (w .submits) ≡ none → ⊥
+aborted-contested {o = o} w aborts f e =
+    let a = f .listed (λ o. o .accepted ≡ not (contested o (w .submits))) aborts in
+    apart (a ∙ ap not (none-contests o (w .submits) (submit-none o (w .submits) e))) (f .aborted)
 
 -- Both answers, of a watch whose every step has its place.
 module _ (calls : List Call) (seen : List Seen) (p : ℕ → ℕ) (w : Watch) (places : Places (stepAt calls seen) p w)
@@ -196,27 +140,16 @@ module _ (calls : List Call) (seen : List Seen) (p : ℕ → ℕ) (w : Watch) (p
   abbrev look : ℕ → Option Step
   look = stepAt calls seen
 
-  placed-at : (at j q : ℕ) → IsDeliver j q none (look at) → DeliverPlaced w at j q
-  placed-at at j q d = subst (λ k. DeliverPlaced w k j q) (omega arith) (deliver-placed w 0 calls seen placed at j q d)
+  decided : Every (Decided look) (w .decided)
+  decided = every (λ o d. d .0) (w .decided) (places .decided)
 
   -- where no operation was found there is no verdict: it would be that of one which the watcher has
   none-answered : abortedOp i k (w .decided) ≡ none → Answered look i k none
   none-answered e submitAt at x =
-      let found = one-of (λ o. (o .given .member ≡ i) × (o .verdictAt ≡ at)) (w .decided) (placed-at at i 5 (x .verdict) .verdict refl) in
-      let o = found .one in
-      let whose = found .holds .0 in
-      let when = found .holds .1 in
-      let phase : ℕ = cond (o .accepted) 4 5 in
-      let d = found .listed (λ o. Decided look o × (o .verdictAt ≤ w .steps)) (places .decided) .0 in
-      let j = found .listed (λ o. Judged look (o .given .member) o) (marks .decided) in
-      let verdict : IsDeliver i phase none (look at) =
-      subst (λ m. IsDeliver m phase none (look at)) whose
-      (subst (λ v. IsDeliver (o .given .member) phase none (look v)) when (d .judged)) in
-      let ordinal : begunCount look i at ≡ o .ordinal =
-      subst (λ m. begunCount look m at ≡ o .ordinal) whose
-      (subst (λ v. begunCount look (o .given .member) v ≡ o .ordinal) when (j .verdict)) in
+      let found = judged-at calls seen w placed decided (marks .decided) at i 5 none (inr refl) (x .verdict) in
+      let o = found .holds in
       found .listed (λ o. o .given .member ≡ i → o .ordinal ≡ k → o .accepted ≡ false → ⊥) (op-none i k (w .decided) e)
-      whose (sym ordinal ∙ x .itsVerdict) (five-aborts (o .accepted) (same-phase (look at) i phase 5 verdict (x .verdict)))
+      (o .member) (o .ordinal ∙ x .itsVerdict) (five-aborts (found .one .accepted) (o .verdict))
 
   -- The operation that was found.
   module _ (o : Op) (f : FoundOp i k (w .decided) o) where
@@ -225,7 +158,7 @@ module _ (calls : List Call) (seen : List Seen) (p : ℕ → ℕ) (w : Watch) (p
 
     was-aborted : Aborted look i k (o .submitAt) (o .verdictAt)
     was-aborted =
-        let d = f .listed (λ o. Decided look o × (o .verdictAt ≤ w .steps)) (places .decided) .0 in
+        let d = f .listed (Decided look) decided in
         record {
           submit = subst (λ m. IsDeliver m 2 none (look (o .submitAt))) (f .member) (d .submitted);
           verdict = subst (λ m. IsDeliver m 5 none (look (o .verdictAt))) (f .member)
@@ -238,7 +171,7 @@ module _ (calls : List Call) (seen : List Seen) (p : ℕ → ℕ) (w : Watch) (p
     overtakes-it : (at j : ℕ) → o .submitAt < at → at < o .verdictAt → TakesSubmit look at j (slotBegun look i (o .submitAt))
         → OneOf (λ u. (u .at ≡ at) × (overtakes u o ≡ true)) (w .submits)
     overtakes-it at j l m t =
-        let u = one-of (λ u. (u .member ≡ j) × (u .at ≡ at)) (w .submits) (placed-at at j 2 (t .0) .submit refl) in
+        let u = one-of (λ u. (u .member ≡ j) × (u .at ≡ at)) (w .submits) (placed-at calls seen w placed at j 2 none (t .0) .submit refl) in
         let s = u .one in
         let when = u .holds .1 in
         let slot : slotBegun look j at ≡ s .slot =
@@ -274,12 +207,9 @@ module _ (calls : List Call) (seen : List Seen) (p : ℕ → ℕ) (w : Watch) (p
               omega (arith, least, u .holds .0);
         }
 
-  -- an aborted operation is contested, so that a submit is found
-  module _ (aborts : Every (λ o. o .accepted ≡ not (contested o (w .submits))) (w .decided)) where
+  module _ (aborts : Aborts w) where
     submit-answered : (o : Op) → FoundOp i k (w .decided) o → (x : Option Submit) → firstOvertaking o (w .submits) ≡ x → Answered look i k x
-    submit-answered o f none e =
-        let a = f .listed (λ o. o .accepted ≡ not (contested o (w .submits))) aborts in
-        absurd (apart (a ∙ ap not (none-contests o (w .submits) (submit-none o (w .submits) e))) (f .aborted))
+    submit-answered o f none e = absurd (aborted-contested w aborts f e)
     submit-answered o f (some s) e = some-answered o f s (submit-found o (w .submits) s e)
 
     op-answered : (x : Option Op) → abortedOp i k (w .decided) ≡ x → Answered look i k (overtaking x (w .submits))
@@ -301,13 +231,18 @@ watched-left next calls seen Q keep t h kind n boards d =
     let ahead : Ahead (stepAt calls seen) 0 calls seen = λ k z. ap (stepAt calls seen) (omega arith) in
     run-beside (stepAt calls seen) next Q keep (λ i. 0) nothingYet t (places-nothing (stepAt calls seen)) h calls seen ahead moves
 
+pub run-marked : (kind : Kind) (n : ℕ) (calls : List Call) (boards : List Board) (seen : List Seen) → Demand3 kind n calls boards seen
+    → Left (stepAt calls seen) (Marks (stepAt calls seen)) (watched calls seen)
+run-marked kind n calls boards seen d =
+    watched-left {T = Unit {0}} (λ t call s. t) calls seen (λ p w t. Marks (stepAt calls seen) p w)
+    (λ p q w x t call s here. marks-after) tt (marks-nothing (stepAt calls seen)) kind n boards d
+
 pub overtaker-answered : (kind : Kind) (n : ℕ) (calls : List Call) (boards : List Board) (seen : List Seen)
     → Demand3 kind n calls boards seen → (i k : ℕ) → Answered (stepAt calls seen) i k (overtakerIn (watched calls seen) i k)
 unfolding overtakerIn
 overtaker-answered kind n calls boards seen d i k =
     let w = watched calls seen in
-    let l = watched-left {T = Unit {0}} (λ t call s. t) calls seen (λ p w t. Marks (stepAt calls seen) p w)
-    (λ p q w x t call s here. marks-after) tt (marks-nothing (stepAt calls seen)) kind n boards d in
+    let l = run-marked kind n calls boards seen d in
     op-answered calls seen (l .phases) w (l .places) (l .kept) (d .positions .complete) i k (d .aborts) (abortedOp i k (w .decided)) refl
 
 -- The words of the claim, on a run by hand: every position is computed.

@@ -23,6 +23,8 @@ pub mod KindClaims
 pub mod Script
 pub mod Overtaker
 pub mod OvertakerClaims
+pub mod Cause
+pub mod CauseClaims
 pub mod Messages
 pub mod LengthClaims
 pub mod Published

@@ -1,0 +1,79 @@
+-- What is claimed of a step that cost an operation, of none, and of the operations of its member where another's step is left out: about
+-- the steps of the runs alone, whatever the watcher's own definitions are. Everywhere `at s` is the step of each number in the run
+-- without step s, and `at 0` in the whole run.
+use Prim.Native.Nat.{ℕ, _-_, _<_}
+use mathlib.Core.Path.{_≡_}
+use mathlib.Core.Bool.{Bool, false, cond, _&&_, _||_}
+use mathlib.Core.Option.{Option, none, some}
+use lib.Dec.{eqb, leb}
+use Rattle.model.specs.Records.{read, write, zeroValue}
+use Rattle.model.specs.Runs.{Call, begin, deliver, crash, Seen, Step, step}
+use Rattle.model.specs.Positions.{IsDeliver, beganBy, begunCount}
+use Rattle.model.specs.Script.{caller}
+
+-- Both answers.
+
+-- Member i's k-th operation was accepted: its commit was taken at a step when it had begun k, and its phase was then 4.
+pub record Accepted (at : ℕ → Option Step) (i k : ℕ) : Type 0 where
+  pub verdictAt : ℕ
+  pub verdict : IsDeliver i 4 none (at verdictAt)
+  pub itsVerdict : begunCount at i verdictAt ≡ k
+
+-- a step of another member than i: "begin, deliver or crash, refused or not"
+abbrev pub OfAnother : ℕ → Option Step → Type 0
+OfAnother i none = ⊥
+OfAnother i (some (step call s)) = caller call ≡ i → ⊥
+
+-- step s cost member i its k-th operation: it is another's, and without it the operation was accepted
+pub record Costs (at : ℕ → ℕ → Option Step) (i k s : ℕ) : Type 0 where
+  pub another : OfAnother i (at 0 s)
+  pub accepted : Accepted (at s) i k
+
+-- "`some s` means accepted without s and not accepted without any earlier step of another"
+pub record FirstCost (at : ℕ → ℕ → Option Step) (i k s : ℕ) : Type 0 where
+  pub costs : Costs at i k s
+  pub first : (t : ℕ) → t < s → Costs at i k t → ⊥
+
+-- "`none` means accepted without no step of another"
+abbrev pub CauseAnswered : (ℕ → ℕ → Option Step) → ℕ → ℕ → Option ℕ → Type 0
+CauseAnswered at i k (some s) = FirstCost at i k s
+CauseAnswered at i k none = (t : ℕ) → Costs at i k t → ⊥
+
+-- That MEMBER and ORDINAL name the same operation where another's step is left out.
+
+-- the number of step k where step s is left out; at s itself, that of the step before it
+abbrev pub numberWithout : ℕ → ℕ → ℕ
+numberWithout s k = cond (leb s k) (k - 1) k
+
+-- is it a deliver at which the host judged an operation of member i
+unfoldable pub judgedBy : ℕ → Option Step → Bool
+judgedBy i none = false
+judgedBy i (some (step (begin j r t v) s)) = false
+judgedBy i (some (step (deliver j) s)) = eqb j i && (eqb (s .answer) 0 && (eqb (s .phases i) 4 || eqb (s .phases i) 5))
+judgedBy i (some (step (crash j) s)) = false
+
+-- the same phase, but for accepted (4) against aborted (5)
+pub data SamePhase : ℕ → ℕ → Type 0 where
+  same : (p : ℕ) → SamePhase p p
+  judged : (a b : Bool) → SamePhase (cond a 4 5) (cond b 4 5)
+
+-- the same call; where it is member i's, the same answer and the same phase of i after it, but for the verdict
+pub record SameSeen (i : ℕ) (call : Call) (s t : Seen) : Type 0 where
+  pub answer : caller call ≡ i → s .answer ≡ t .answer
+  pub phase : SamePhase (s .phases i) (t .phases i)
+
+abbrev pub SameStep : ℕ → Option Step → Option Step → Type 0
+SameStep i none none = Unit {0}
+SameStep i none (some (step d t)) = ⊥
+SameStep i (some (step c s)) none = ⊥
+SameStep i (some (step c s)) (some (step d t)) = (c ≡ d) × SameSeen i c s t
+
+-- Of the runs `whole`, and `left` without its step s.
+pub record SameOperations (whole left : ℕ → Option Step) (i s : ℕ) : Type 0 where
+  pub steps : (k : ℕ) → 0 < k → (k ≡ s → ⊥) → SameStep i (whole k) (left (numberWithout s k))
+  -- "which begins of MEMBER are answered 0"
+  pub begins : (k : ℕ) → 0 < k → (k ≡ s → ⊥) → beganBy i (left (numberWithout s k)) ≡ beganBy i (whole k)
+  -- "at which of its lines its verdict falls"
+  pub verdicts : (k : ℕ) → 0 < k → (k ≡ s → ⊥) → judgedBy i (left (numberWithout s k)) ≡ judgedBy i (whole k)
+  -- so that after each line the member has begun as many operations
+  pub ordinals : (k : ℕ) → begunCount left i (numberWithout s k) ≡ begunCount whole i k
