@@ -1,13 +1,12 @@
 -- One line more in the pass over a script's lines: it is refused, or the others follow on the table that it left. And a call that is
 -- answered 0 is one of a member's.
-use Prim.Native.Nat.{ℕ, _+_, _-_, _≤_}
+use Prim.Native.Nat.{ℕ, _+_, _≤_}
 use mathlib.Core.Path.{_≡_, refl, sym, ap, subst, _∙_}
 use mathlib.Core.Bool.{Bool, true, _&&_, _||_}
-use mathlib.Core.List.{List}
+use mathlib.Core.List.{List, _∷_}
 use mathlib.Core.Option.{Option, none, some}
 use native.Mathlib.Omega.{arith}
 use lib.Dec.{eqb}
-use lib.ListN.{take, drop}
 use Rattle.lists.specs.Functions.{inside}
 use Rattle.lists.specs.Parts.{words}
 use Rattle.lists.proofs.Functions.{on, split, inside-low, inside-high}
@@ -16,7 +15,7 @@ use Rattle.model.specs.Kinds.{concur}
 use Rattle.model.specs.Board.{Board}
 use Rattle.model.specs.Runs.{Call, begin, deliver, crash, Seen, Step, step, answerOf}
 use Rattle.model.specs.TableCalls.{boardIn, callNumber, tableAnswer, tableSeen}
-use Rattle.model.specs.Script.{lineCall, linesOf, caller, stepped, stepLine}
+use Rattle.model.specs.Script.{lineCall, caller, stepped, stepLine}
 use Rattle.model.specs.Overtaker.{refuses}
 use Rattle.model.proofs.Answers.{begin-taken, deliver-taken, crash-taken}
 use Rattle.script_run.specs.Meaning.{Shows, StepHeld, Whole}
@@ -27,7 +26,6 @@ use Rattle.overtaker.specs.Search.{Search, searchOf, searchBegin, search
 use Rattle.overtaker.specs.Search.{searchVerdict, searchDeliver, searchCall, searchNext, searchStep, unlessMalformed, linesSearched}
 use Rattle.overtaker.specs.declared.Overtaker.{Overtaker}
 use Rattle.overtaker.specs.declared.search.Search.{Search as SearchStruct}
-use Rattle.overtaker.proofs.NextLine.{NextLine}
 
 -- A call that is answered 0.
 
@@ -130,28 +128,17 @@ held-counts i k s r d x h z e = some-shown _ d x h z
     (λ call seen shows. let c = subst (Counted (searchOf s)) (sym (e call seen shows)) (step-counted i k (searchOf s) call seen) in
     (c .steps, c .begun))
 
-module _ (i k : ℕ) (script : List ℕ) (at long : ℕ) (next : NextLine script at long) (table : List ℕ) (s : Search) (d : Done)
-    (held : StepHeld d (stepLine concur table (take (at + long - at) (drop at script)) .happened)) where
-  abbrev line : List ℕ
-  line = take (at + long - at) (drop at script)
-
-  abbrev behind : List (List ℕ)
-  behind = linesOf (drop (at + long + 1) script)
-
-  lines-next : linesSearched i k table s (linesOf (drop at script))
-      ≡ unlessMalformed (stepLine concur table line .happened)
-      (λ call seen. linesSearched i k (stepLine concur table line .table) (searchStep i k s call seen) behind)
+module _ (i k : ℕ) (line : List ℕ) (behind : List (List ℕ)) (table : List ℕ) (s : Search) (d : Done)
+    (held : StepHeld d (stepLine concur table line .happened)) where
+  pub search-ends : d .line .kind ≡ 0 → linesSearched i k table s (line ∷ behind) ≡ heldOvertaker (refuses 17)
   unfolding linesSearched
-  lines-next = ap (linesSearched i k table s) (next .lines)
-
-  pub search-ends : d .line .kind ≡ 0 → linesSearched i k table s (linesOf (drop at script)) ≡ heldOvertaker (refuses 17)
-  search-ends z = lines-next ∙ malformed-ends d (stepLine concur table line .happened) _ held z
+  search-ends z = malformed-ends d (stepLine concur table line .happened) _ held z
 
   pub search-goes : (d .line .kind ≡ 0 → ⊥) → (after : List ℕ) → after ≡ stepLine concur table line .table
       → (r : Search) → ((call : Call) (seen : Seen) → Shows d call seen → r ≡ searchStep i k s call seen)
-      → linesSearched i k table s (linesOf (drop at script)) ≡ linesSearched i k after r behind
+      → linesSearched i k table s (line ∷ behind) ≡ linesSearched i k after r behind
+  unfolding linesSearched
   search-goes z after e r h =
-      lines-next
-      ∙ step-goes d (stepLine concur table line .happened) _ (linesSearched i k after r behind) held z
+      step-goes d (stepLine concur table line .happened) _ (linesSearched i k after r behind) held z
       (λ call seen shows. ap (λ x. linesSearched i k (stepLine concur table line .table) x behind) (sym (h call seen shows))
       ∙ ap (λ l. linesSearched i k l r behind) (sym e))

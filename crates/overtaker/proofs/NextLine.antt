@@ -4,12 +4,15 @@ use mathlib.Core.Path.{_≡_, sym, ap, _∙_}
 use mathlib.Core.Bool.{false, _&&_}
 use mathlib.Core.List.{List, [], _∷_}
 use native.Mathlib.Omega.{arith}
+use borrow.Author.Tests.{ne-eqb}
 use lib.ListN.{length, take, drop, length-drop}
 use lib.Seq.{take-all, drop-drop}
 use Rattle.model.specs.Script.{lineFeed, before, Line, lineOf, callOf, linesOf}
 use Rattle.model.specs.Overtaker.{isCall, wellFormed}
 use Rattle.script.specs.Meaning.{heldLine}
 use Rattle.script.specs.declared.Line.{Line as LineStruct}
+use Rattle.model.specs.Cause.{without}
+use Rattle.model.proofs.Cause.{without-none}
 use Rattle.script.proofs.Lines.{before-within, first-line, no-line}
 use Rattle.script_run.proofs.Held.{no-call, some-call}
 
@@ -62,6 +65,34 @@ module _ (script : List ℕ) (at : ℕ) (more : at < length script) where
     unfolding isCall
     formed-same k = formed-next ∙ rw (some-call line (λ z. k (ap (λ r. r .kind) held ∙ z)))
 
+-- The lines that are still to run at a place, when `number` lines are passed and the one of number `skip` is left out.
+module _ (script : List ℕ) (skip : ℕ) where
+  abbrev pub ahead : ℕ → ℕ → List (List ℕ)
+  ahead number at = without (skip - number) (linesOf (drop at script))
+
+  pub first-ahead : (at : ℕ) → without skip (linesOf (drop at script)) ≡ ahead 0 at
+  first-ahead at = let all : skip ≡ skip - 0 = omega arith in ap (λ k. without k (linesOf (drop at script))) all
+
+  module _ (at long : ℕ) (next : NextLine script at long) (number : ℕ) where
+    pub skips-line : number + 1 ≡ skip → ahead number at ≡ ahead (number + 1) (at + long + 1)
+    unfolding without
+    skips-line e =
+        let here : skip - number ≡ 1 = omega arith in
+        let none-left : skip - (number + 1) ≡ 0 = omega arith in
+        rw (next .lines, here, none-left) (sym (without-none (linesOf (drop (at + long + 1) script))))
+
+    pub runs-line : (number + 1 ≡ skip → ⊥)
+        → ahead number at ≡ take (at + long - at) (drop at script) ∷ ahead (number + 1) (at + long + 1)
+    unfolding without
+    runs-line d =
+        let later : skip - number - 1 ≡ skip - (number + 1) = omega arith in
+        rw (next .lines, ne-eqb (skip - number) 1 (λ e. d (omega arith)))
+        (ap (λ k. take (at + long - at) (drop at script) ∷ without k (linesOf (drop (at + long + 1) script))) later)
+
 -- behind the last line there is none
 pub no-more : (script : List ℕ) (at : ℕ) → length script ≤ at → linesOf (drop at script) ≡ []
 no-more script at h = no-line (drop at script) (omega (arith, length-drop at script))
+
+pub none-ahead : (script : List ℕ) (skip number at : ℕ) → length script ≤ at → ahead script skip number at ≡ []
+unfolding without
+none-ahead script skip number at h = ap (without (skip - number)) (no-more script at h)

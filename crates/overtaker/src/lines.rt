@@ -3,6 +3,7 @@ ghost use mathlib.Core.Path.{_≡_};
 ghost use Prim.Native.Nat.{_≤_};
 ghost use lib.ListN.{length, drop};
 ghost use Rattle.lists.specs.Functions.{Within};
+ghost use Rattle.model.specs.Cause.{without};
 ghost use Rattle.model.specs.Overtaker.{mostBytes, wellFormed, linesOvertaker};
 ghost use Rattle.model.specs.Script.{linesOf};
 ghost use Rattle.model.specs.Table.{tableSize};
@@ -34,27 +35,36 @@ pub fn well_formed(script: &[u8], from: usize) -> bool
     true
 }
 
-// Each line run on the table that the one before left: 17 at the first of another form, else what is remembered in the end.
+// Each line but that of the number `skip`, from 1, run on the table that the one before left: 17 at the first of another form, else what is
+// remembered in the end. No line is left out where `skip` is 0.
 pub fn search_lines(
     table: &mut [u32],
     script: &[u8],
     from: usize,
+    skip: u32,
     member: u32,
     ordinal: u32,
 ) -> Overtaker
     requires { ⌜ (Whole (now table)) × (length (now script) ≤ mostBytes) ⌝ }
-    ensures { λ r. ⌜ r ≡ linesSearched member ordinal (now (table .entry)) searchStart (linesOf (drop from (now (script .entry)))) ⌝ }
+    ensures { λ r. ⌜ r ≡ linesSearched member ordinal (now (table .entry)) searchStart
+        (without skip (linesOf (drop from (now (script .entry))))) ⌝ }
 {
     let mut search = Search::start();
     let mut at = from;
+    let mut number = 0;
     while at < script.len() {
+        let start = at;
         let end = at + line_length(&script[at..]);
-        let done = run_line(table, &script[at..end]);
+        at = end + 1;
+        number += 1;
+        if number == skip {
+            continue;
+        }
+        let done = run_line(table, &script[start..end]);
         if done.line.kind == Line::MALFORMED {
             return Overtaker::refused(17);
         }
         search = search.step(done, member, ordinal);
-        at = end + 1;
     }
     search.answer()
 }
@@ -65,12 +75,14 @@ pub fn search_board(
     n: u32,
     script: &[u8],
     from: usize,
+    skip: u32,
     member: u32,
     ordinal: u32,
 ) -> Overtaker
     requires { ⌜ (Within 12 n) × ((length (now table) ≡ tableSize n) × (length (now script) ≤ mostBytes)) ⌝ }
-    ensures { λ r. ⌜ r ≡ heldOvertaker (linesOvertaker n (linesOf (drop from (now (script .entry)))) member ordinal) ⌝ }
+    ensures { λ r. ⌜ r ≡ heldOvertaker
+        (linesOvertaker n (without skip (linesOf (drop from (now (script .entry))))) member ordinal) ⌝ }
 {
     open(table, n);
-    search_lines(table, script, from, member, ordinal)
+    search_lines(table, script, from, skip, member, ordinal)
 }

@@ -34,7 +34,7 @@ fn find_behind(
 {
     if is_numbered(n, MOST_MEMBERS) {
         let size = table_size(n as usize);
-        return search_board(&mut table[..size], n, script, from, member, ordinal);
+        return search_board(&mut table[..size], n, script, from, 0, member, ordinal);
     }
     if well_formed(script, from) {
         return Overtaker::refused(1);

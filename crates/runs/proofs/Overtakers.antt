@@ -38,7 +38,7 @@ unfolding isCall stepped stepNumbered stepAt withCall tableRun
 numbered-call table none steps calls k f e = absurd (apart f refl)
 numbered-call table (some call) steps calls k f e = on (eqb k 1) (λ h. rw h) (λ h. rw h e)
 
-numbered-calls : (lines : List (List ℕ)) (table : List ℕ) (k : ℕ) → wellFormed lines ≡ true
+pub numbered-calls : (lines : List (List ℕ)) (table : List ℕ) (k : ℕ) → wellFormed lines ≡ true
     → stepNumbered (stepsFrom concur table lines) k ≡ stepAt (callsOf lines) (tableRun concur table (callsOf lines)) k
 unfolding wellFormed stepsFrom stepLine callsOf stepNumbered stepAt
 numbered-calls [] table k f = refl
@@ -71,11 +71,11 @@ module _ (input line : List ℕ) (lines : List (List ℕ)) (n : ℕ) (split-so :
   all-steps : take mostSteps lines ≡ lines
   all-steps = take-all mostSteps lines (omega (arith, few-lines input, ap length split-so))
 
-  script-steps : scriptRun concur input ≡ ran n steps
+  pub script-steps : scriptRun concur input ≡ ran n steps
   unfolding scriptRun linesRun boardRun
   script-steps = rw (split-so, named-so, size) (ap (λ l. ran n (stepsFrom concur (tableWords n (opened n)) l)) all-steps)
 
-  calls-answered : Answered (stepNumbered steps) i k
+  pub calls-answered : Answered (stepNumbered steps) i k
       (overtakerIn (watched (callsOf lines) (tableRun concur (tableWords n (opened n)) (callsOf lines))) i k)
   calls-answered =
       let run = steps-run concur n size lines in

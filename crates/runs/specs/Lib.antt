@@ -6,3 +6,4 @@ pub mod AuctionCases
 pub mod Scripts
 pub mod HostWords
 pub mod Overtakers
+pub mod Causes

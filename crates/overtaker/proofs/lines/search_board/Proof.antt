@@ -6,6 +6,7 @@ use lib.ListN.{drop}
 use Rattle.lists.specs.Functions.{inside}
 use Rattle.lists.proofs.Functions.{inside-in}
 use Rattle.model.specs.Board.{opened}
+use Rattle.model.specs.Cause.{without}
 use Rattle.model.specs.Script.{linesOf}
 use Rattle.model.specs.Table.{tableWords}
 use Rattle.script_run.proofs.Held.{whole-words, opened-words}
@@ -49,7 +50,7 @@ returns c =
     let done = c .before .before in
     let opens = passed done in
     let a = start opens .args in
-    let lines = linesOf (drop (a .from) (a .script .now)) in
+    let lines = without (a .skip) (linesOf (drop (a .from) (a .script .now))) in
     done .search-lines .ensures
     ∙ ap (λ t. linesSearched (a .member) (a .ordinal) t searchStart lines) (left opens)
     ∙ lines-answered (a .member) (a .ordinal) (a .n) lines (sized opens)

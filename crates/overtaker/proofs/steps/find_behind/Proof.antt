@@ -11,6 +11,8 @@ use lib.Seq.{length-take-le}
 use Rattle.lists.specs.Functions.{inside}
 use Rattle.lists.proofs.Functions.{inside-low, inside-high}
 use Rattle.model.specs.Script.{linesOf}
+use Rattle.model.specs.Overtaker.{linesOvertaker}
+use Rattle.model.proofs.Cause.{without-none}
 use Rattle.overtaker.specs.Meaning.{heldOvertaker}
 use Rattle.overtaker.proofs.Answers.{lines-malformed, no-size}
 use Rattle.overtaker.proofs.steps.find_behind.Statement.{statement}
@@ -55,7 +57,12 @@ search-board-requires c κs =
     )
 
 returns : tie.Need-returns
-returns c = c .before .before .search-board .ensures
+returns c =
+    let done = c .before .before in
+    let s = asked (done .before .before) in
+    let a = s .args in
+    done .search-board .ensures
+    ∙ ap (λ lines. heldOvertaker (linesOvertaker (a .n) lines (a .member) (a .ordinal))) (without-none (behind s))
 
 well-formed-requires : tie.Need-well-formed-requires
 well-formed-requires c κs = start (c .before) .pre .0
