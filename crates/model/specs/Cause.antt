@@ -2,7 +2,7 @@
 -- operation be accepted. Of a run; then the answer to a script and to the arguments, as bytes.
 use Prim.Native.Nat.{ℕ, _+_, _-_}
 use mathlib.Core.Bool.{Bool, false, cond, not, _&&_, _||_}
-use mathlib.Core.List.{List, [], _∷_, _++_}
+use mathlib.Core.List.{List, [], _∷_}
 use mathlib.Core.Option.{Option, none, some}
 use lib.Dec.{eqb, ltb}
 use lib.ListN.{length}
@@ -13,7 +13,7 @@ use Rattle.model.specs.History.{Op, watched}
 use Rattle.model.specs.Table.{tableWords}
 use Rattle.model.specs.TableCalls.{tableRun}
 use Rattle.model.specs.Script.{lineFeed, text, firstOf, callsOf, caller, linesOf, field}
-use Rattle.model.specs.Overtaker.{Overtaker, refuses, names, membersOvertaker, mostBytes, Asked, askedBy}
+use Rattle.model.specs.Overtaker.{Overtaker, refuses, names, membersOvertaker, mostBytes, Asked, askedBy, forAsked}
 
 -- Of a run.
 
@@ -80,8 +80,7 @@ cause input i k = cond (ltb mostBytes (length input)) (refused 17) (scriptCause 
 -- The program.
 
 unfoldable pub causeFor : Option Asked → List ℕ → Cause
-causeFor none input = refused 17
-causeFor (some a) input = cause input (a .member) (a .ordinal)
+causeFor a input = forAsked (refused 17) (cause input) a
 
 -- "print the earliest such step's number, or `none`, alone on a line"; a refusal prints its number
 unfoldable pub printedCause : Cause → List ℕ

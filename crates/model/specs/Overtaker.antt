@@ -106,9 +106,13 @@ bothNumbers (some x) (some y) = some (record { member = x; ordinal = y })
 unfoldable pub askedBy : ℕ → List ℕ → List ℕ → Option Asked
 askedBy count first second = cond (eqb count 2) (bothNumbers (numberOf first) (numberOf second)) none
 
+-- one answer where the arguments ask for no operation, and one to the operation that they ask for
+unfoldable pub forAsked : {A : Type 0} → A → (ℕ → ℕ → A) → Option Asked → A
+forAsked otherwise answer none = otherwise
+forAsked otherwise answer (some a) = answer (a .member) (a .ordinal)
+
 unfoldable pub overtakerFor : Option Asked → List ℕ → Overtaker
-overtakerFor none input = refuses 17
-overtakerFor (some a) input = overtaker input (a .member) (a .ordinal)
+overtakerFor a input = forAsked (refuses 17) (overtaker input) a
 
 -- "It prints on one line, with one space between, the member and step number .. A refusal prints its number alone."
 unfoldable pub printedOvertaker : Overtaker → List ℕ

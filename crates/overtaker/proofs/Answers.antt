@@ -14,7 +14,7 @@ use Rattle.model.specs.Kinds.{isSize}
 use Rattle.model.specs.History.{Submit}
 use Rattle.model.specs.Script.{space, lineFeed, before, numberOf, firstOf, linesOf, field}
 use Rattle.model.specs.Overtaker.{Overtaker, refuses, names, named, wellFormed, linesOvertaker, membersOvertaker, scriptOvertaker}
-use Rattle.model.specs.Overtaker.{mostBytes, overtaker, overtakerIn, Asked, bothNumbers, askedBy, overtakerFor, printedOvertaker}
+use Rattle.model.specs.Overtaker.{mostBytes, overtaker, overtakerIn, Asked, bothNumbers, askedBy, forAsked, overtakerFor, printedOvertaker}
 use Rattle.script.proofs.Lines.{first-line, no-line}
 use Rattle.overtaker.specs.Meaning.{heldOvertaker, heldAsked, Numbered}
 use Rattle.overtaker.specs.declared.Overtaker.{Overtaker as OvertakerStruct}
@@ -47,7 +47,7 @@ module _ (i k : ℕ) where
     -- the first line, and those behind it
     module _ (short : length input ≤ mostBytes) (some-bytes : 0 < length input) (long : ℕ)
         (ends : long ≡ length (before lineFeed input)) where
-      by-first : overtaker input i k ≡ membersOvertaker (firstOf (take long input)) (linesOf (drop (long + 1) input)) i k
+      pub by-first : overtaker input i k ≡ membersOvertaker (firstOf (take long input)) (linesOf (drop (long + 1) input)) i k
       unfolding scriptOvertaker
       by-first = short-enough short ∙ rw ends (ap (λ lines. scriptOvertaker lines i k) (first-line input some-bytes))
 
@@ -62,23 +62,23 @@ module _ (i k : ℕ) where
 
 -- The operation that the arguments ask for.
 
-none-for : (input : List ℕ) (a : Option Asked) → heldAsked a .ok ≡ false → overtakerFor a input ≡ refuses 17
-unfolding heldAsked overtakerFor
-none-for input none f = refl
-none-for input (some a) f = absurd (apart refl f)
+module _ {A : Type 0} (otherwise : A) (answer : ℕ → ℕ → A) where
+  none-for : (a : Option Asked) → heldAsked a .ok ≡ false → forAsked otherwise answer a ≡ otherwise
+  unfolding heldAsked forAsked
+  none-for none f = refl
+  none-for (some a) f = absurd (apart refl f)
 
-some-for : (input : List ℕ) (a : Option Asked) → heldAsked a .ok ≡ true
-    → overtakerFor a input ≡ overtaker input (heldAsked a .member) (heldAsked a .ordinal)
-unfolding heldAsked overtakerFor
-some-for input none f = absurd (apart f refl)
-some-for input (some a) f = refl
+  some-for : (a : Option Asked) → heldAsked a .ok ≡ true → forAsked otherwise answer a ≡ answer (heldAsked a .member) (heldAsked a .ordinal)
+  unfolding heldAsked forAsked
+  some-for none f = absurd (apart f refl)
+  some-for (some a) f = refl
 
-module _ (a : Option Asked) (input : List ℕ) (asked : AskedStruct) (e : asked ≡ heldAsked a) where
-  pub nothing-asked : asked .ok ≡ false → overtakerFor a input ≡ refuses 17
-  nothing-asked f = none-for input a (sym (ap (λ x. x .ok) e) ∙ f)
+  module _ (a : Option Asked) (asked : AskedStruct) (e : asked ≡ heldAsked a) where
+    pub nothing-asked : asked .ok ≡ false → forAsked otherwise answer a ≡ otherwise
+    nothing-asked f = none-for a (sym (ap (λ x. x .ok) e) ∙ f)
 
-  pub something-asked : asked .ok ≡ true → overtakerFor a input ≡ overtaker input (asked .member) (asked .ordinal)
-  something-asked f = rw e (some-for input a (sym (ap (λ x. x .ok) e) ∙ f))
+    pub something-asked : asked .ok ≡ true → forAsked otherwise answer a ≡ answer (asked .member) (asked .ordinal)
+    something-asked f = rw e (some-for a (sym (ap (λ x. x .ok) e) ∙ f))
 
 -- The arguments.
 
@@ -114,7 +114,7 @@ lines-numbered n lines i k = split Numbered (not (wellFormed lines))
     (λ f. omega arith)
     (λ f. split Numbered (not (isSize n)) (λ z. omega arith) (λ z. named-numbered (overtakerIn _ i k)))
 
-members-numbered : (n : Option ℕ) (lines : List (List ℕ)) (i k : ℕ) → Numbered (membersOvertaker n lines i k)
+pub members-numbered : (n : Option ℕ) (lines : List (List ℕ)) (i k : ℕ) → Numbered (membersOvertaker n lines i k)
 unfolding membersOvertaker
 members-numbered none lines i k = omega arith
 members-numbered (some n) lines i k = lines-numbered n lines i k
@@ -124,11 +124,15 @@ unfolding scriptOvertaker
 script-numbered [] i k = omega arith
 script-numbered (first ∷ lines) i k = members-numbered (firstOf first) lines i k
 
+pub overtaker-numbered : (input : List ℕ) (i k : ℕ) → Numbered (overtaker input i k)
+unfolding overtaker
+overtaker-numbered input i k =
+    split Numbered (ltb mostBytes (length input)) (λ l. omega arith) (λ l. script-numbered (linesOf input) i k)
+
 pub answer-numbered : (a : Option Asked) (input : List ℕ) → Numbered (overtakerFor a input)
-unfolding overtakerFor overtaker
+unfolding overtakerFor forAsked
 answer-numbered none input = omega arith
-answer-numbered (some a) input =
-    split Numbered (ltb mostBytes (length input)) (λ l. omega arith) (λ l. script-numbered (linesOf input) (a .member) (a .ordinal))
+answer-numbered (some a) input = overtaker-numbered input (a .member) (a .ordinal)
 
 -- What is printed, by the number.
 

@@ -11,7 +11,7 @@ ghost use Rattle.overtaker.specs.Meaning.{heldOvertaker, heldAsked, long
 use crate::Asked;
 use crate::MOST_BYTES;
 use crate::Overtaker;
-use crate::lines::search_board;
+pub use crate::lines::search_board;
 use crate::lines::well_formed;
 use rules::MOST_MEMBERS;
 use rules::is_numbered;

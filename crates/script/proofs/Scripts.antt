@@ -34,7 +34,7 @@ use Rattle.model.specs.Script.{withCall, callsOf}
 use Rattle.model.specs.History.{noOp, begunOp, submittedOp, submitOf, decidedOp, endedOp, ended, watchDeliver, watchCall, watchStep}
 use Rattle.model.specs.History.{watchFrom, nothingYet, watched}
 use Rattle.model.specs.Overtaker.{isAborted, abortedOp, earlier, firstOvertaking, overtaking, overtakerIn, named, isCall, wellFormed}
-use Rattle.model.specs.Overtaker.{linesOvertaker, membersOvertaker, scriptOvertaker, overtaker, bothNumbers, askedBy, overtakerFor}
+use Rattle.model.specs.Overtaker.{linesOvertaker, membersOvertaker, scriptOvertaker, overtaker, bothNumbers, askedBy, forAsked, overtakerFor}
 use Rattle.model.specs.Overtaker.{printedOvertaker, overtakerOutput}
 use Rattle.script.specs.Examples.{Holds, examples, Answers, questions}
 
@@ -57,7 +57,7 @@ unfolding examples questions zeroRow zeroMatrix below matrixBelow comparable lar
     withByte linesOf boardRun linesRun scriptRun orDash printedLine lastWord printedStep printedSteps boardLine refusedLine printedRun
     scriptOutput noOp begunOp submittedOp submitOf decidedOp endedOp ended watchDeliver watchCall watchStep watchFrom nothingYet watched
     withCall callsOf isAborted abortedOp earlier firstOvertaking overtaking overtakerIn named isCall wellFormed linesOvertaker
-    membersOvertaker scriptOvertaker overtaker bothNumbers askedBy overtakerFor printedOvertaker overtakerOutput
+    membersOvertaker scriptOvertaker overtaker bothNumbers askedBy forAsked overtakerFor printedOvertaker overtakerOutput
 every-example = (
   refl and refl and refl and refl and refl and refl and refl and refl and refl and refl and refl and refl and refl and refl and tt,
   refl and refl and refl and refl and refl and refl and refl and refl and refl and refl and refl and refl and refl and refl and

@@ -45,7 +45,7 @@ pub fn print_number(out: &mut [u8], at: usize, x: u32) -> usize
 }
 
 // Bytes as they are.
-fn print_bytes(out: &mut [u8], at: usize, text: &[u8]) -> usize
+pub fn print_bytes(out: &mut [u8], at: usize, text: &[u8]) -> usize
     requires { ⌜ at + length (now text) ≤ length (now out) ⌝ }
     ensures { λ r. ⌜ Printed (now (out .entry)) (now (out .exit)) at (now (text .entry)) r ⌝ }
 {

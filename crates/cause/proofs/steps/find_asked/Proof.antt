@@ -1,0 +1,34 @@
+-- `find_asked` meets its contract: the arguments ask for no operation, or for one.
+use borrow.Author.Needs.{needs}
+use mathlib.Core.Path.{sym, ap, _∙_}
+use borrow.Author.Tests.{not-true, not-false}
+use Rattle.model.specs.Cause.{refused, cause, causeFor}
+use Rattle.overtaker.proofs.Answers.{nothing-asked, something-asked}
+use Rattle.cause.specs.Meaning.{heldCause}
+use Rattle.cause.proofs.steps.find_asked.Statement.{statement}
+use Rattle.cause.proofs.steps.find_asked.Tie as tie
+
+returns : tie.Need-returns
+unfolding causeFor
+returns c a e =
+    let s = c .before .before .before .before .before in
+    c .refused .ensures
+    ∙ ap heldCause (sym (nothing-asked (refused 17) (cause (s .args .script .now)) a (s .args .asked) e
+    (not-true (s .args .asked .ok) (c .before .if1 .taken))))
+
+find-on-requires : tie.Need-find-on-requires
+find-on-requires c κs = c .before .before .before .before .before .pre
+
+returns-2 : tie.Need-returns-2
+unfolding causeFor
+returns-2 c a e =
+    let found = c .before .before in
+    let asked = found .before .before in
+    let s = asked .before .before .before .before in
+    found .find-on .ensures
+    ∙ ap heldCause (sym (something-asked (refused 17) (cause (s .args .script .now)) a (s .args .asked) e
+    (not-false (s .args .asked .ok) (asked .if1 .left))))
+
+pub find-asked-spec : {M : Type 1} → statement M
+find-asked-spec =
+    tie.close (tie.spec (λ c κs. search needs) returns find-on-requires (λ c. search needs) returns-2)
