@@ -8,42 +8,9 @@ use overtaker::Asked;
 use overtaker::LONGEST_ANSWER;
 use overtaker::steps::answer;
 use script_run::MOST_WORDS;
-use streams::Input;
-use streams::read_all;
 use streams::write_out;
-
-// Longer than any number: an argument that does not fit is none.
-const LONGEST_ARGUMENT: usize = 16;
-
-// The arguments behind the program's own name.
-fn argument_count() -> usize {
-    let count = os::arg_count();
-    if count == 0 {
-        return 0;
-    }
-    count - 1
-}
-
-fn read_arguments() -> Asked {
-    let mut first = [0u8; LONGEST_ARGUMENT];
-    let mut second = [0u8; LONGEST_ARGUMENT];
-    let a = os::arg(1, &mut first);
-    let b = os::arg(2, &mut second);
-    Asked::read(argument_count(), &first[..a], &second[..b])
-}
-
-// The script. Nothing is read where the arguments ask for no operation.
-fn read_script(asked: Asked, input: &mut [u8]) -> Input
-    ensures { λ r. ⌜ r .length ≤ length (now (input .exit)) ⌝ }
-{
-    if !asked.ok {
-        return Input {
-            ok: true,
-            length: 0,
-        };
-    }
-    read_all(input)
-}
+use tool_input::read_arguments;
+use tool_input::read_script;
 
 // Nothing is printed where reading fails.
 fn run(asked: Asked, input: &mut [u8], table: &mut [u32], out: &mut [u8])
