@@ -2,4 +2,3 @@ pub mod Reading
 pub mod Digits
 pub mod Printing
 pub mod Lines
-pub mod Scripts

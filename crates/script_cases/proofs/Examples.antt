@@ -36,10 +36,12 @@ use Rattle.model.specs.History.{watchFrom, nothingYet, watched}
 use Rattle.model.specs.Overtaker.{isAborted, abortedOp, earlier, firstOvertaking, overtaking, overtakerIn, named, isCall, wellFormed}
 use Rattle.model.specs.Overtaker.{linesOvertaker, membersOvertaker, scriptOvertaker, overtaker, bothNumbers, askedBy, forAsked, overtakerFor}
 use Rattle.model.specs.Overtaker.{printedOvertaker, overtakerOutput}
-use Rattle.script.specs.Examples.{Holds, examples, Answers, questions}
+use Rattle.model.specs.Cause.{without, isAccepted, hasAccepted, acceptedWithout, firstCause, causeIn, unlessRefused, linesCause}
+use Rattle.model.specs.Cause.{scriptCause, cause, causeFor, printedCause, causeOutput}
+use Rattle.script_cases.specs.Examples.{Holds, examples, Answers, questions, lineFeeds, causeQuestions}
 
-pub every-example : Every Holds examples × Every Answers questions
-unfolding examples questions zeroRow zeroMatrix below matrixBelow comparable larger withCount zeroValue opening zeroRecord recordWithin
+pub every-example : Every Holds examples × Every (Answers overtakerOutput) questions × Every (Answers causeOutput) causeQuestions
+unfolding examples questions lineFeeds causeQuestions zeroRow zeroMatrix below matrixBelow comparable larger withCount zeroValue opening zeroRecord recordWithin
     isOperation barred becomesStored fieldsNumber kindNumber beginAnswer deliverAnswer crashAnswer idle begun answered check21
     check22 check23 check24 check25 check26 check27 haltNumber joined ownRecord passed failed replied judged completed tookOver dropped
     outcome returnedBy crashedOf submitted
@@ -58,9 +60,12 @@ unfolding examples questions zeroRow zeroMatrix below matrixBelow comparable lar
     scriptOutput noOp begunOp submittedOp submitOf decidedOp endedOp ended watchDeliver watchCall watchStep watchFrom nothingYet watched
     withCall callsOf isAborted abortedOp earlier firstOvertaking overtaking overtakerIn named isCall wellFormed linesOvertaker
     membersOvertaker scriptOvertaker overtaker bothNumbers askedBy forAsked overtakerFor printedOvertaker overtakerOutput
+    without isAccepted hasAccepted acceptedWithout firstCause causeIn unlessRefused linesCause scriptCause cause causeFor printedCause causeOutput
 every-example = (
   refl and refl and refl and refl and refl and refl and refl and refl and refl and refl and refl and refl and refl and refl and tt,
   refl and refl and refl and refl and refl and refl and refl and refl and refl and refl and refl and refl and refl and refl and
       refl and refl and refl and refl and refl and refl and refl and refl and refl and refl and refl and refl and refl and refl and
       refl and refl and refl and refl and refl and tt,
+  refl and refl and refl and refl and refl and refl and refl and refl and refl and refl and refl and refl and refl and
+      refl and refl and refl and refl and refl and refl and refl and refl and refl and refl and refl and refl and refl and refl and tt,
 )

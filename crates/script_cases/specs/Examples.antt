@@ -1,10 +1,10 @@
 -- Scripts and what the programs print of them: document 01's example, and the readings of docs/DECISIONS.md.
-use Prim.Native.Nat.{ℕ}
+use Prim.Native.Nat.{ℕ, zero, suc}
 use Prim.Native.String.{String}
 use mathlib.Core.Path.{_≡_}
-use mathlib.Core.List.{List, [], _∷_}
+use mathlib.Core.List.{List, [], _∷_, _++_}
 use Rattle.model.specs.Kinds.{concur}
-use Rattle.model.specs.Script.{text, scriptOutput}
+use Rattle.model.specs.Script.{text, lineFeed, scriptOutput}
 use Rattle.model.specs.Overtaker.{overtakerOutput}
 
 pub record Example : Type 0 where
@@ -47,31 +47,33 @@ examples =
     prints "board 1\n1 0 1 -\n2 0 2 -\n3 0 3 -\n4 0 4 -\n5 0 0 -\n6 0 1 -\n7 0 2 -\n8 0 3 -\n9 0 4 -\n10 0 0 9\n")
     ∷ []
 
--- Who overtook an operation: a script, the number of arguments, the first two, and what is printed.
+-- A question about an operation: a script, the number of arguments, the first two, and what is printed.
 pub record Question : Type 0 where
-  pub script : String
+  pub script : List ℕ
   pub count : ℕ
   pub first : String
   pub second : String
   pub output : String
 
-abbrev pub Answers : Question → Type 0
-Answers q = overtakerOutput (q .count) (text (q .first)) (text (q .second)) (text (q .script)) ≡ text (q .output)
+-- a program that is asked prints that
+abbrev pub Answers : (ℕ → List ℕ → List ℕ → List ℕ → List ℕ) → Question → Type 0
+Answers output q = output (q .count) (text (q .first)) (text (q .second)) (q .script) ≡ text (q .output)
 
 -- two arguments
 abbrev pub asks : String → String → String → String → Question
-asks script first second output = record { script = script; count = 2; first = first; second = second; output = output }
+asks script first second output = record { script = text script; count = 2; first = first; second = second; output = output }
 
--- some arguments for a script that would name member 2 and step 4
+-- some arguments for a script in which member 2 overtakes member 1's write at step 4
 abbrev pub asked : ℕ → String → String → String → Question
 asked count first second output = record {
-  script = "members 2\nwrite 1 7\ndeliver 1\nread 2 1\ndeliver 2\ndeliver 1\ndeliver 1\n";
+  script = text "members 2\nwrite 1 7\ndeliver 1\nread 2 1\ndeliver 2\ndeliver 1\ndeliver 1\n";
   count = count;
   first = first;
   second = second;
   output = output;
 }
 
+-- Who overtook it.
 unfoldable pub questions : List Question
 questions =
     asked 2 "1" "1" "2 4\n"
@@ -118,4 +120,61 @@ questions =
     ∷ asks "members 13\nwrite 1 7\n" "1" "1" "1\n"
     ∷ asks "members 0\n" "1" "1" "1\n"
     ∷ asks "members 13\nbid 1\n" "1" "1" "17\n"
+    ∷ []
+
+-- The step that cost it.
+
+-- a first line, and k empty ones
+unfoldable pub lineFeeds : ℕ → List ℕ
+lineFeeds zero = []
+lineFeeds (suc k) = lineFeed ∷ lineFeeds k
+
+abbrev pub blank : ℕ → String → ℕ → String → Question
+blank count first k output =
+    record { script = text first ++ lineFeeds k; count = count; first = "1"; second = "1"; output = output }
+
+unfoldable pub causeQuestions : List Question
+causeQuestions =
+    -- one overtaker: its begin, though the deliver of its submit would do as well
+    asked 2 "1" "1" "3\n"
+    ∷ asks "members 2\nread 2 1\ndeliver 2\nwrite 1 7\ndeliver 1\ndeliver 2\ndeliver 2" "2" "1" "3\n"
+    -- without its first begin its second one counts, which was refused: so it is the deliver of its submit
+    ∷ asks "members 2\nwrite 1 7\ndeliver 1\nread 2 1\nread 2 1\ndeliver 2\ndeliver 1\ndeliver 1" "1" "1" "5\n"
+    -- a deliver of an earlier operation of the overtaker, long before: its next begin is then refused; without that operation's begin
+    -- the delivers are refused, and the next begin counts as before
+    ∷ asks "members 2\nread 2 2\ndeliver 2\ndeliver 2\ndeliver 2\ndeliver 2\nwrite 1 7\ndeliver 1\nread 2 1\ndeliver 2\ndeliver 1\ndeliver 1"
+    "1" "1" "2\n"
+    -- two different overtakers, and one that overtakes twice: none by itself
+    ∷ asks "members 3\nwrite 1 7\ndeliver 1\nread 2 1\ndeliver 2\nread 3 1\ndeliver 3\ndeliver 1\ndeliver 1" "1" "1" "none\n"
+    ∷ asks "members 2\nwrite 1 7\ndeliver 1\nread 2 1\ndeliver 2\ndeliver 2\ndeliver 2\ndeliver 2\nread 2 1\ndeliver 2\ndeliver 1\ndeliver 1"
+    "1" "1" "none\n"
+    -- own steps do not count: without step 2 the submit would come after the other
+    ∷ asks "members 2\nwrite 1 7\ndeliver 1\nread 2 1\ndeliver 2\ndeliver 1\ndeliver 1\ndeliver 1" "1" "1" "3\n"
+    -- a crash of the overtaker, or of a bystander, does nothing
+    ∷ asks "members 3\ncrash 3\nwrite 1 7\ndeliver 1\nread 2 1\ncrash 2\ndeliver 2\ndeliver 1\ndeliver 1" "1" "1" "4\n"
+    -- the second operation, after an accepted one; and a step of two digits, after nine that are refused
+    ∷ asks "members 2\nread 1 2\ndeliver 1\ndeliver 1\ndeliver 1\ndeliver 1\nread 1 1\ndeliver 1\nread 2 1\ndeliver 2\ndeliver 1\ndeliver 1"
+    "1" "2" "8\n"
+    ∷ asks "members 2\ndeliver 1\ndeliver 1\ndeliver 1\ndeliver 1\ndeliver 1\ndeliver 1\ndeliver 1\ndeliver 1\ndeliver 1\nwrite 1 7\ndeliver 1\nread 2 1\ndeliver 2\ndeliver 1\ndeliver 1"
+    "1" "1" "12\n"
+    -- 31: accepted, unfinished, not there
+    ∷ asks "members 2\nwrite 1 7\ndeliver 1\ndeliver 1\ndeliver 1\nread 2 1\ndeliver 2" "1" "1" "31\n"
+    ∷ asks "members 2\nwrite 1 7\ndeliver 1\nread 2 1\ndeliver 2\ndeliver 1" "1" "1" "31\n"
+    ∷ asked 2 "1" "2" "31\n"
+    ∷ asked 2 "2" "1" "31\n"
+    ∷ asked 2 "3" "1" "31\n"
+    -- 35: one line more than 256 behind the first, whatever they and the first are; the arguments come before
+    ∷ blank 2 "members 1\n" 256 "17\n"
+    ∷ blank 2 "members 1\n" 257 "35\n"
+    ∷ blank 2 "members 13\n" 257 "35\n"
+    ∷ blank 2 "" 257 "17\n"
+    ∷ blank 2 "" 258 "35\n"
+    ∷ blank 1 "members 1\n" 257 "17\n"
+    -- 17 and 1 as for the overtaker
+    ∷ asks "" "1" "1" "17\n"
+    ∷ asked 3 "1" "1" "17\n"
+    ∷ asked 2 "1" "01" "17\n"
+    ∷ asks "members 2\nwrite 1 7\ndeliver 1\nread 2 1\ndeliver 2\ndeliver 1\ndeliver 1\nmembers 2\n" "1" "1" "17\n"
+    ∷ asks "members 13\nbid 1\n" "1" "1" "17\n"
+    ∷ asks "members 13\nwrite 1 7\n" "1" "1" "1\n"
     ∷ []
