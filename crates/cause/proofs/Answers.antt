@@ -11,7 +11,7 @@ use borrow.Author.Tests.{eqb-true, eqb-false, lt-ltb, le-ltb}
 use Rattle.lists.proofs.Functions.{on, split}
 use Rattle.model.specs.Script.{lineFeed, text, before, firstOf, callsOf, caller, linesOf, field}
 use Rattle.model.specs.Runs.{Call}
-use Rattle.model.specs.Overtaker.{Overtaker, refuses, names, membersOvertaker, mostBytes, overtaker, linesOvertaker, Asked, forAsked}
+use Rattle.model.specs.Overtaker.{Overtaker, refuses, names, mostBytes, overtaker, linesOvertaker, Asked, forAsked}
 use Rattle.model.specs.Cause.{firstCause, causeIn, Cause, refused, answered, unlessRefused, linesCause, mostLines, scriptCause, cause}
 use Rattle.model.specs.Cause.{causeFor, printedCause}
 use Rattle.script.specs.Meaning.{heldNumber}

@@ -5,7 +5,6 @@ use mathlib.Core.Path.{_≡_, refl, sym, ap, subst, _∙_}
 use mathlib.Core.Bool.{Bool, true, false, cond, not, _&&_}
 use mathlib.Core.List.{List, [], _∷_}
 use mathlib.Core.Option.{Option, none, some}
-use native.Mathlib.Numerals.{add-one}
 use native.Mathlib.Omega.{arith}
 use lib.Dec.{eqb}
 use lib.ListN.{length, take, drop}
@@ -13,16 +12,16 @@ use lib.Seq.{drop-drop}
 use borrow.Author.Tests.{eq-eqb, ne-eqb}
 use Rattle.lists.specs.Functions.{inside}
 use Rattle.lists.proofs.Functions.{on, first, second, apart}
-use Rattle.model.specs.Kinds.{Kind, concur}
+use Rattle.model.specs.Kinds.{concur}
 use Rattle.model.specs.Board.{opened}
-use Rattle.model.specs.Runs.{Call, Seen, Step, step}
+use Rattle.model.specs.Runs.{Call, Seen}
 use Rattle.model.specs.History.{Submit, watched}
 use Rattle.model.specs.Positions.{stepAt}
 use Rattle.model.specs.Table.{tableWords}
-use Rattle.model.specs.TableCalls.{tableAfter, tableSeen, tableRun}
-use Rattle.model.specs.Script.{Line, writes, reads, delivers, crashes, malformed, lineOf, callOf, lineCall, withCall, callsOf, caller}
+use Rattle.model.specs.TableCalls.{tableAfter, tableRun}
+use Rattle.model.specs.Script.{Line, writes, reads, delivers, crashes, malformed, lineOf, callOf, withCall, callsOf, caller}
 use Rattle.model.specs.Script.{linesOf}
-use Rattle.model.specs.Overtaker.{Overtaker, refuses, names, named, overtakerIn, isCall, wellFormed, linesOvertaker}
+use Rattle.model.specs.Overtaker.{named, overtakerIn, isCall, wellFormed, linesOvertaker}
 use Rattle.model.specs.Cause.{without, acceptedWithout, firstCause, causeIn, linesCause}
 use Rattle.model.specs.CauseClaims.{OfAnother}
 use Rattle.model.proofs.AcceptedOps.{Told, accepts, aborts}
@@ -149,7 +148,8 @@ module _ (n : ℕ) (lines : List (List ℕ)) (i k : ℕ) (overtaken : Named (lin
     calls-here = ap callsOf (next .lines) ∙ ap (λ c. withCall c (callsOf behind)) (here .made)
 
     answer-here : linesCause (some n) lines i k
-        ≡ cond (not (eqb (caller (here .call)) i) && test (number + 1)) (some (number + 1)) (firstCause i test (number + 1 + 1) (callsOf behind))
+        ≡ cond (not (eqb (caller (here .call)) i) && test (number + 1)) (some (number + 1))
+        (firstCause i test (number + 1 + 1) (callsOf behind))
     unfolding firstCause
     answer-here = s .answer ∙ ap (firstCause i test (number + 1)) calls-here
 

@@ -1,10 +1,10 @@
 -- Whether a member's k-th operation was accepted, by the watcher's list and by the steps: the same. And a member has one k-th operation, so
 -- that it was accepted or somebody overtook it, and not both.
-use Prim.Native.Nat.{ℕ, _≤_, _<_}
-use mathlib.Core.Path.{_≡_, refl, sym, ap, subst, _∙_}
-use mathlib.Core.Bool.{Bool, true, false, cond, not, _&&_, _||_}
+use Prim.Native.Nat.{ℕ}
+use mathlib.Core.Path.{_≡_, refl, sym, subst, _∙_}
+use mathlib.Core.Bool.{Bool, true, false, cond, _&&_}
 use mathlib.Core.List.{List, [], _∷_}
-use mathlib.Core.Logic.{_⊎_, inl, inr}
+use mathlib.Core.Logic.{inl, inr}
 use mathlib.Core.Option.{Option, none, some}
 use native.Mathlib.Omega.{arith}
 use lib.Dec.{eqb}
@@ -14,17 +14,17 @@ use Rattle.lists.proofs.Functions.{on, both, first, second, neither, apart}
 use Rattle.model.specs.Kinds.{Kind}
 use Rattle.model.specs.Board.{Board}
 use Rattle.model.specs.Runs.{Call, Seen, Step}
-use Rattle.model.specs.History.{Op, Submit, Watch, watched, contested}
+use Rattle.model.specs.History.{Op, Submit, Watch, watched}
 use Rattle.model.specs.Positions.{stepAt, IsDeliver, begunCount, Decided, After, InTurn, AllPlaced}
 use Rattle.model.specs.Demand3.{Demand3}
-use Rattle.model.specs.Overtaker.{abortedOp, firstOvertaking, overtaking, overtakerIn}
+use Rattle.model.specs.Overtaker.{abortedOp, overtaking, overtakerIn}
 use Rattle.model.specs.Cause.{isAccepted, hasAccepted}
 use Rattle.model.specs.CauseClaims.{Accepted}
 use Rattle.model.proofs.HistoryLists.{every}
 use Rattle.model.proofs.Ordinals.{same-begin}
 use Rattle.model.proofs.OvertakerMarks.{Judged}
 use Rattle.model.proofs.Verdicts.{OneOf, one-of, four-accepts, judged-at}
-use Rattle.model.proofs.Overtaker.{FoundOp, op-found, op-none, Aborts, aborted-contested, run-marked}
+use Rattle.model.proofs.Overtaker.{op-found, op-none, Aborts, aborted-contested, run-marked}
 
 -- In a list of operations.
 module _ (i k : ℕ) where
@@ -187,7 +187,8 @@ module _ (calls : List Call) (seen : List Seen) (w : Watch) (v : Verdicts calls 
         accepts (has-one i k (w .decided) (record { one = o; holds = (x .holds .0, x .holds .1, won); listed = x .listed })) refl
     not-overtaken (some p) e won =
         let f = op-found i k (w .decided) p e in
-        let same = f .listed (λ p. p .given .member ≡ i → p .ordinal ≡ k → p .accepted ≡ o .accepted) same-verdict (f .member) (f .ordinal) in
+        let same = f .listed (λ p. p .given .member ≡ i → p .ordinal ≡ k → p .accepted ≡ o .accepted) same-verdict
+        (f .member) (f .ordinal) in
         absurd (apart won (sym same ∙ f .aborted))
 
     pub verdict-told : Told (hasAccepted i k (w .decided)) (overtakerIn w i k)

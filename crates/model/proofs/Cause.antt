@@ -1,7 +1,7 @@
 -- Both answers about a cause hold: the step that is named is the first of another without which the operation is accepted, and where none
 -- is named there is none. And leaving such a step out moves no operation of the member, so that its verdict on an aborted one falls
 -- without the step too.
-use Prim.Native.Nat.{ℕ, _+_, _-_, _≤_, _<_}
+use Prim.Native.Nat.{ℕ, _+_, _-_, _<_}
 use mathlib.Core.Path.{_≡_, refl, sym, ap, subst, _∙_}
 use mathlib.Core.Bool.{Bool, true, false, cond, not, _&&_, _||_}
 use mathlib.Core.List.{List, [], _∷_}
@@ -10,20 +10,21 @@ use mathlib.Core.Option.{Option, none, some}
 use native.Mathlib.Omega.{arith}
 use lib.Dec.{eqb}
 use borrow.Author.Tests.{eq-eqb, ne-eqb, eqb-true, eqb-false, not-true}
-use Rattle.lists.specs.Every.{Every}
-use Rattle.lists.proofs.Functions.{on, first, second, either, apart}
+use Rattle.lists.proofs.Functions.{on, first, second, apart}
 use Rattle.model.specs.Kinds.{Kind}
 use Rattle.model.specs.Records.{Value}
 use Rattle.model.specs.Board.{Board}
 use Rattle.model.specs.Runs.{Call, begin, deliver, crash, Seen, Step, step}
-use Rattle.model.specs.Reference.{Reference, refOpened, refAfter, refSeen, refRun}
+use Rattle.model.specs.Reference.{Reference, refOpened, refAfter, refRun}
 use Rattle.model.specs.History.{Op, Submit, Watch, watched}
-use Rattle.model.specs.Positions.{stepAt, IsDeliver, begunCount, Decided}
+use Rattle.model.specs.Positions.{stepAt, IsDeliver, beganBy, begunCount, Decided}
 use Rattle.model.specs.Demand3.{Demand3}
 use Rattle.model.specs.Script.{caller}
 use Rattle.model.specs.Overtaker.{abortedOp, overtaking, overtakerIn}
-use Rattle.model.specs.Cause.{without, hasAccepted, acceptedWithout, firstCause, causeIn}
-use Rattle.model.specs.CauseClaims.{Accepted, OfAnother, Costs, CauseAnswered, numberWithout, judgedBy, SameOperations}
+use Rattle.model.specs.Cause.{without, acceptedWithout, firstCause, causeIn}
+use Rattle.model.specs.OvertakerClaims.{sampleCalls, sampleSeen}
+use Rattle.model.specs.CauseClaims.{Accepted, OfAnother, Costs, CauseAnswered, numberWithout, judgedBy, judged, SameOperations}
+use Rattle.model.specs.CauseClaims.{leftSeen, SampleCaused}
 use Rattle.model.proofs.OvertakerMarks.{Judged}
 use Rattle.model.proofs.Verdicts.{OneOf, no-step, judged-at}
 use Rattle.model.proofs.Overtaker.{none-or-some, FoundOp, op-found}
@@ -266,3 +267,24 @@ module _ (kind : Kind) (n : ℕ) (anew : List Call → List Seen) (calls : List 
   accepted-or-overtaken z e s other =
       verdict-told (without s calls) (anew (without s calls)) (watch s) (verdicts s) i k
       (overtaken-op (abortedOp i k (watch 0 .decided)) z e refl s other)
+
+-- The words of the claims, on a run by hand: every position is computed.
+
+abbrev wholeAt : ℕ → Option Step
+wholeAt = stepAt sampleCalls sampleSeen
+
+abbrev leftAt : ℕ → Option Step
+leftAt = stepAt (without 3 sampleCalls) leftSeen
+
+pub sample-caused : SampleCaused wholeAt leftAt
+unfolding stepAt without caller judgedBy begunCount beganBy
+sample-caused = record {
+  another = λ e. omega arith;
+  anotherNot = ((λ o. o refl), (λ o. o));
+  accepted = record { verdictAt = 6; verdict = (refl, refl, refl, refl); itsVerdict = refl };
+  judges = (refl, refl);
+  judgesNot = (refl, refl);
+  numbers = (refl, refl);
+  same = (refl, record { answer = λ e. refl; phase = judged false true });
+  sameNot = ((λ s. omega (arith, s .1 .answer refl)), (λ s. let d = s .0 in let z : _≡_ {A = ℕ} 0 1 = cc in omega arith));
+}

@@ -1,8 +1,8 @@
 -- Leaving out another's step moves neither which begins of a member are answered 0 nor at which of its lines its verdicts fall: from what
 -- stays the same at each step (OwnCalls.antt).
-use Prim.Native.Nat.{ℕ, zero, suc, _+_, _-_, _≤_, _<_}
+use Prim.Native.Nat.{ℕ, zero, suc, _+_, _-_, _<_}
 use mathlib.Core.Path.{_≡_, refl, sym, ap, subst, _∙_}
-use mathlib.Core.Bool.{Bool, true, false, cond, _&&_, _||_}
+use mathlib.Core.Bool.{Bool, false, cond, _&&_, _||_}
 use mathlib.Core.List.{List}
 use mathlib.Core.Option.{Option, none, some}
 use native.Mathlib.Numerals.{add-one}
@@ -16,7 +16,7 @@ use Rattle.model.specs.Reference.{refOpened, refRun}
 use Rattle.model.specs.Positions.{stepAt, beganBy, begunCount}
 use Rattle.model.specs.Script.{caller}
 use Rattle.model.specs.Cause.{without}
-use Rattle.model.specs.CauseClaims.{OfAnother, numberWithout, judgedBy, SamePhase, same, SameSeen, SameStep, SameOperations}
+use Rattle.model.specs.CauseClaims.{OfAnother, numberWithout, judgedBy, same, SameSeen, SameStep, SameOperations}
 use Rattle.model.proofs.Ordinals.{count-next, count-same}
 use Rattle.model.proofs.OwnCalls.{by-phase, some-step, left-alike}
 

@@ -2,21 +2,21 @@
 -- on its slot in between. From demand 3's claims: an aborted operation is a contested one, and the watcher's positions are the steps.
 use Prim.Native.Nat.{ℕ, _+_, _-_, _≤_, _<_}
 use mathlib.Core.Path.{_≡_, refl, sym, ap, subst, _∙_}
-use mathlib.Core.Bool.{Bool, true, false, cond, not, _&&_, _||_}
+use mathlib.Core.Bool.{true, false, cond, not, _&&_, _||_}
 use mathlib.Core.List.{List, [], _∷_}
 use mathlib.Core.Logic.{_⊎_, inl, inr, ⊎-elim}
 use mathlib.Core.Option.{Option, none, some}
 use native.Mathlib.Omega.{arith}
 use lib.Dec.{eqb, ltb}
 use borrow.Author.Tests.{eq-eqb, lt-ltb, eqb-true, eqb-false, ltb-true, not-true}
-use Rattle.lists.specs.Every.{Every, Some}
+use Rattle.lists.specs.Every.{Every}
 use Rattle.lists.proofs.Functions.{on, both, first, second, apart}
 use Rattle.model.specs.Kinds.{Kind}
 use Rattle.model.specs.Board.{Board}
-use Rattle.model.specs.Runs.{Call, begin, deliver, crash, Seen, Step, step}
+use Rattle.model.specs.Runs.{Call, Seen, Step, step}
 use Rattle.model.specs.Reference.{refIdle, refOpened}
 use Rattle.model.specs.History.{Op, Submit, Watch, nothingYet, watched, overtakes, contested}
-use Rattle.model.specs.Positions.{stepAt, IsDeliver, beganBy, begunCount, Decided, Placed, AllPlaced}
+use Rattle.model.specs.Positions.{stepAt, IsDeliver, beganBy, begunCount, Decided, AllPlaced}
 use Rattle.model.specs.Demand3.{Demand3}
 use Rattle.model.specs.Overtaker.{isAborted, abortedOp, earlier, firstOvertaking, overtaking, overtakerIn}
 use Rattle.model.specs.OvertakerClaims.{slotAfter, slotBegun, TakesSubmit, Aborted, Overtook, Answered, sampleCalls, sampleSeen}

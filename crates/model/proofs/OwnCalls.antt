@@ -1,10 +1,9 @@
 -- A member's answers, and its phases but for 4 against 5, depend on its own calls alone: two references that agree on its phase so, on its
 -- crash mark and on its begins do after every call, and another's call changes none of the three. So another's call can be left out.
-use Prim.Native.Nat.{ℕ, _+_, _-_, _≤_, _<_}
+use Prim.Native.Nat.{ℕ, _+_, _-_, _<_}
 use mathlib.Core.Path.{_≡_, refl, sym, ap, subst, _∙_}
 use mathlib.Core.Bool.{Bool, true, false, cond, not}
 use mathlib.Core.List.{List, [], _∷_}
-use mathlib.Core.Option.{some}
 use native.Mathlib.Omega.{arith}
 use lib.Dec.{eqb, leb}
 use borrow.Author.Tests.{ne-eqb, eqb-true, eqb-false, le-leb, lt-leb, leb-true, leb-false}
@@ -12,8 +11,8 @@ use Rattle.lists.specs.Functions.{put}
 use Rattle.lists.proofs.Functions.{on, split, split-both, put-at, put-off}
 use Rattle.model.specs.Kinds.{Kind}
 use Rattle.model.specs.Numbers.{beginAnswer, deliverAnswer, crashAnswer}
-use Rattle.model.specs.Runs.{Call, begin, deliver, crash, Seen, Step, step}
-use Rattle.model.specs.Reference.{RefMember, Reference, refWith, refBegun, refMoved, refOvertaken, submittedOn, refSubmit, refReply}
+use Rattle.model.specs.Runs.{Call, begin, deliver, crash, Seen}
+use Rattle.model.specs.Reference.{RefMember, Reference, refBegun, refMoved, refOvertaken, submittedOn, refSubmit, refReply}
 use Rattle.model.specs.Reference.{refAccepted, refAccept, refAbort, refCommit, refEnded, refEnd, refDelivered, refMarked}
 use Rattle.model.specs.Reference.{refAnswer, refDone, refAfter, refSeen, refRun}
 use Rattle.model.specs.Positions.{stepAt}
@@ -125,7 +124,8 @@ module _ (kind : Kind) (n : ℕ) where
   same-answer : (a b : Reference) (call : Call) → AlikeAt (caller call) a b → refAnswer kind n a call ≡ refAnswer kind n b call
   unfolding caller refAnswer beginAnswer deliverAnswer crashAnswer
   same-answer a b (begin i r t v) h =
-      rw (h .crashed, h .begins) (by-phase (λ p. beginAnswer kind n p (b .members i .crashed) (b .members i .begins r) i r t) refl (h .phase))
+      rw (h .crashed, h .begins)
+      (by-phase (λ p. beginAnswer kind n p (b .members i .crashed) (b .members i .begins r) i r t) refl (h .phase))
   same-answer a b (deliver i) h = rw (h .crashed) (by-phase (λ p. deliverAnswer n p (b .members i .crashed) i) refl (h .phase))
   same-answer a b (crash i) h = rw (h .crashed) (by-phase (λ p. crashAnswer n p (b .members i .crashed) i) refl (h .phase))
 
@@ -202,7 +202,8 @@ module _ (kind : Kind) (n : ℕ) where
         let leaves = other-leaves i kind n a call (rw e at o) in
         rw (e, ne-eqb k 1 (λ f. d (f ∙ sym one)), le-leb s k (omega arith))
         (runs-alike calls next b (rw leaves h) (k - 1)))
-        (λ e. let more : 1 < s = (let z = some-step i (call ∷ calls) (refRun kind n a (call ∷ calls)) s o in let d = eqb-false s 1 e in omega arith) in
+        (λ e. let numbered = some-step i (call ∷ calls) (refRun kind n a (call ∷ calls)) s o in
+        let more : 1 < s = (let other = eqb-false s 1 e in omega arith) in
         on (eqb k 1)
         (λ f. let one = eqb-true k 1 f in rw (e, one, lt-leb s 1 more) (refl, seen-alike a b call h))
         (λ f. let d1 = eqb-false k 1 f in

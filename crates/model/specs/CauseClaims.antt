@@ -3,13 +3,14 @@
 -- without step s, and `at 0` in the whole run.
 use Prim.Native.Nat.{ℕ, _-_, _<_}
 use mathlib.Core.Path.{_≡_}
-use mathlib.Core.Bool.{Bool, false, cond, _&&_, _||_}
+use mathlib.Core.Bool.{Bool, true, false, cond, _&&_, _||_}
+use mathlib.Core.List.{List, [], _∷_}
 use mathlib.Core.Option.{Option, none, some}
 use lib.Dec.{eqb, leb}
-use Rattle.model.specs.Records.{read, write, zeroValue}
 use Rattle.model.specs.Runs.{Call, begin, deliver, crash, Seen, Step, step}
 use Rattle.model.specs.Positions.{IsDeliver, beganBy, begunCount}
 use Rattle.model.specs.Script.{caller}
+use Rattle.model.specs.OvertakerClaims.{sampleStep}
 
 -- Both answers.
 
@@ -77,3 +78,19 @@ pub record SameOperations (whole left : ℕ → Option Step) (i s : ℕ) : Type 
   pub verdicts : (k : ℕ) → 0 < k → (k ≡ s → ⊥) → judgedBy i (left (numberWithout s k)) ≡ judgedBy i (whole k)
   -- so that after each line the member has begun as many operations
   pub ordinals : (k : ℕ) → begunCount left i (numberWithout s k) ≡ begunCount whole i k
+
+-- The run by hand of OvertakerClaims.antt without its step 3, member 2's begin: that member's begin on its own slot, refused before, is now
+-- answered 0, the submit is on that slot, and member 1's write is accepted.
+
+abbrev pub leftSeen : List Seen
+leftSeen = sampleStep 0 1 0 ∷ sampleStep 0 2 0 ∷ sampleStep 0 2 1 ∷ sampleStep 0 2 2 ∷ sampleStep 0 3 2 ∷ sampleStep 0 4 2 ∷ []
+
+pub record SampleCaused (whole left : ℕ → Option Step) : Type 0 where
+  pub another : OfAnother 1 (whole 3)
+  pub anotherNot : (OfAnother 1 (whole 2) → ⊥) × (OfAnother 1 (whole 8) → ⊥)
+  pub accepted : Accepted left 1 1
+  pub judges : (judgedBy 1 (whole 7) ≡ true) × (judgedBy 1 (left 6) ≡ true)
+  pub judgesNot : (judgedBy 1 (whole 6) ≡ false) × (judgedBy 2 (whole 7) ≡ false)
+  pub numbers : (_≡_ {A = ℕ} (numberWithout 3 2) 2) × (_≡_ {A = ℕ} (numberWithout 3 4) 3)
+  pub same : SameStep 1 (whole 7) (left 6)
+  pub sameNot : (SameStep 2 (whole 4) (left 3) → ⊥) × (SameStep 1 (whole 4) (left 4) → ⊥)

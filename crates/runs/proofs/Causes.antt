@@ -2,7 +2,7 @@
 -- demand 3 holds, and the model's theorem of such runs.
 use Prim.Native.Nat.{ℕ, _-_, _≤_}
 use mathlib.Core.Path.{_≡_, refl, sym, ap, subst, _∙_, fun-ext}
-use mathlib.Core.Bool.{Bool, true, false, cond, not, _&&_}
+use mathlib.Core.Bool.{true, cond}
 use mathlib.Core.List.{List, [], _∷_}
 use mathlib.Core.Option.{Option, none, some}
 use native.Mathlib.Omega.{arith}
@@ -11,7 +11,7 @@ use lib.ListN.{length}
 use borrow.Author.Tests.{ltb-false}
 use Rattle.lists.specs.Functions.{inside}
 use Rattle.lists.proofs.Functions.{on, both, first, second, split, apart}
-use Rattle.model.specs.Kinds.{concur, isSize}
+use Rattle.model.specs.Kinds.{concur}
 use Rattle.model.specs.Board.{Board, opened}
 use Rattle.model.specs.Runs.{Call, Seen, Step}
 use Rattle.model.specs.History.{Submit, watched}
@@ -19,20 +19,19 @@ use Rattle.model.specs.Positions.{stepAt}
 use Rattle.model.specs.Demand3.{Demand3}
 use Rattle.model.specs.Table.{tableWords}
 use Rattle.model.specs.TableCalls.{tableRun, tableBoards}
-use Rattle.model.specs.Script.{lineCall, withCall, callsOf, stepsFrom, linesOf, firstOf}
-use Rattle.model.specs.Overtaker.{Overtaker, refuses, names, named, overtakerIn, isCall, wellFormed, linesOvertaker, membersOvertaker}
+use Rattle.model.specs.Script.{lineCall, withCall, callsOf, linesOf, firstOf}
+use Rattle.model.specs.Overtaker.{named, overtakerIn, isCall, wellFormed, linesOvertaker, membersOvertaker}
 use Rattle.model.specs.Overtaker.{mostBytes}
 use Rattle.model.specs.OvertakerClaims.{Answered, NotAborted}
-use Rattle.model.specs.Cause.{without, acceptedWithout, causeIn, Cause, refused, answered, unlessRefused, linesCause, mostLines}
+use Rattle.model.specs.Cause.{without, acceptedWithout, causeIn, answered, unlessRefused, linesCause, mostLines}
 use Rattle.model.specs.Cause.{scriptCause, cause}
 use Rattle.model.specs.CauseClaims.{OfAnother}
 use Rattle.model.proofs.Overtaker.{overtaker-answered}
 use Rattle.model.proofs.AcceptedOps.{Told}
 use Rattle.model.proofs.Cause.{without-none, cause-answered, left-out, accepted-or-overtaken}
-use Rattle.runs.specs.Overtakers.{stepNumbered}
 use Rattle.runs.specs.Causes.{stepsWithout, OfLines, Caused, ScriptCaused}
 use Rattle.runs.proofs.Scripts.{steps-run}
-use Rattle.runs.proofs.Overtakers.{numbered-calls, script-steps, calls-answered}
+use Rattle.runs.proofs.Overtakers.{numbered-calls, script-steps}
 
 -- Lines that are all steps, without one.
 
@@ -136,7 +135,8 @@ module _ (input line : List ℕ) (lines : List (List ℕ)) (n : ℕ) (split-so :
       holds = h;
     }
 
-    by-overtaker : (x : Option Submit) → overtakerIn (watched (callsOf lines) (tableRun concur (tableWords n (opened n)) (callsOf lines))) i k ≡ x
+    by-overtaker : (x : Option Submit)
+        → overtakerIn (watched (callsOf lines) (tableRun concur (tableWords n (opened n)) (callsOf lines))) i k ≡ x
         → ScriptCaused input i k (unlessRefused (named x) (linesCause (some n) lines i k))
     unfolding named unlessRefused linesCause
     by-overtaker none e = λ z. of-lines (λ at. NotAborted (at 0) i k) (calls-not-aborted n size lines formed i k e)

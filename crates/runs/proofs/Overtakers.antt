@@ -75,7 +75,7 @@ module _ (input line : List ℕ) (lines : List (List ℕ)) (n : ℕ) (split-so :
   unfolding scriptRun linesRun boardRun
   script-steps = rw (split-so, named-so, size) (ap (λ l. ran n (stepsFrom concur (tableWords n (opened n)) l)) all-steps)
 
-  pub calls-answered : Answered (stepNumbered steps) i k
+  calls-answered : Answered (stepNumbered steps) i k
       (overtakerIn (watched (callsOf lines) (tableRun concur (tableWords n (opened n)) (callsOf lines))) i k)
   calls-answered =
       let run = steps-run concur n size lines in

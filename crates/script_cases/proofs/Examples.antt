@@ -34,14 +34,16 @@ use Rattle.model.specs.Script.{withCall, callsOf}
 use Rattle.model.specs.History.{noOp, begunOp, submittedOp, submitOf, decidedOp, endedOp, ended, watchDeliver, watchCall, watchStep}
 use Rattle.model.specs.History.{watchFrom, nothingYet, watched}
 use Rattle.model.specs.Overtaker.{isAborted, abortedOp, earlier, firstOvertaking, overtaking, overtakerIn, named, isCall, wellFormed}
-use Rattle.model.specs.Overtaker.{linesOvertaker, membersOvertaker, scriptOvertaker, overtaker, bothNumbers, askedBy, forAsked, overtakerFor}
+use Rattle.model.specs.Overtaker.{linesOvertaker, membersOvertaker, scriptOvertaker, overtaker, bothNumbers, askedBy}
+use Rattle.model.specs.Overtaker.{forAsked, overtakerFor}
 use Rattle.model.specs.Overtaker.{printedOvertaker, overtakerOutput}
 use Rattle.model.specs.Cause.{without, isAccepted, hasAccepted, acceptedWithout, firstCause, causeIn, unlessRefused, linesCause}
 use Rattle.model.specs.Cause.{scriptCause, cause, causeFor, printedCause, causeOutput}
 use Rattle.script_cases.specs.Examples.{Holds, examples, Answers, questions, lineFeeds, causeQuestions}
 
 pub every-example : Every Holds examples × Every (Answers overtakerOutput) questions × Every (Answers causeOutput) causeQuestions
-unfolding examples questions lineFeeds causeQuestions zeroRow zeroMatrix below matrixBelow comparable larger withCount zeroValue opening zeroRecord recordWithin
+unfolding examples questions lineFeeds causeQuestions zeroRow zeroMatrix below matrixBelow comparable larger withCount zeroValue opening
+    zeroRecord recordWithin
     isOperation barred becomesStored fieldsNumber kindNumber beginAnswer deliverAnswer crashAnswer idle begun answered check21
     check22 check23 check24 check25 check26 check27 haltNumber joined ownRecord passed failed replied judged completed tookOver dropped
     outcome returnedBy crashedOf submitted
@@ -60,12 +62,14 @@ unfolding examples questions lineFeeds causeQuestions zeroRow zeroMatrix below m
     scriptOutput noOp begunOp submittedOp submitOf decidedOp endedOp ended watchDeliver watchCall watchStep watchFrom nothingYet watched
     withCall callsOf isAborted abortedOp earlier firstOvertaking overtaking overtakerIn named isCall wellFormed linesOvertaker
     membersOvertaker scriptOvertaker overtaker bothNumbers askedBy forAsked overtakerFor printedOvertaker overtakerOutput
-    without isAccepted hasAccepted acceptedWithout firstCause causeIn unlessRefused linesCause scriptCause cause causeFor printedCause causeOutput
+    without isAccepted hasAccepted acceptedWithout firstCause causeIn unlessRefused linesCause scriptCause cause causeFor printedCause
+    causeOutput
 every-example = (
   refl and refl and refl and refl and refl and refl and refl and refl and refl and refl and refl and refl and refl and refl and tt,
   refl and refl and refl and refl and refl and refl and refl and refl and refl and refl and refl and refl and refl and refl and
       refl and refl and refl and refl and refl and refl and refl and refl and refl and refl and refl and refl and refl and refl and
       refl and refl and refl and refl and refl and tt,
   refl and refl and refl and refl and refl and refl and refl and refl and refl and refl and refl and refl and refl and
-      refl and refl and refl and refl and refl and refl and refl and refl and refl and refl and refl and refl and refl and refl and tt,
+      refl and refl and refl and refl and refl and refl and refl and refl and refl and refl and refl and refl and refl and refl and
+      refl and tt,
 )

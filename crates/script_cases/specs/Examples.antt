@@ -5,7 +5,6 @@ use mathlib.Core.Path.{_≡_}
 use mathlib.Core.List.{List, [], _∷_, _++_}
 use Rattle.model.specs.Kinds.{concur}
 use Rattle.model.specs.Script.{text, lineFeed, scriptOutput}
-use Rattle.model.specs.Overtaker.{overtakerOutput}
 
 pub record Example : Type 0 where
   pub input : String
@@ -142,24 +141,31 @@ causeQuestions =
     ∷ asks "members 2\nwrite 1 7\ndeliver 1\nread 2 1\nread 2 1\ndeliver 2\ndeliver 1\ndeliver 1" "1" "1" "5\n"
     -- a deliver of an earlier operation of the overtaker, long before: its next begin is then refused; without that operation's begin
     -- the delivers are refused, and the next begin counts as before
-    ∷ asks "members 2\nread 2 2\ndeliver 2\ndeliver 2\ndeliver 2\ndeliver 2\nwrite 1 7\ndeliver 1\nread 2 1\ndeliver 2\ndeliver 1\ndeliver 1"
+    ∷ asks "members 2\nread 2 2\ndeliver 2\ndeliver 2\ndeliver 2\ndeliver 2\nread 1 1\ndeliver 1\nread 2 1\ndeliver 2\ndeliver 1\ndeliver 1"
     "1" "1" "2\n"
     -- two different overtakers, and one that overtakes twice: none by itself
     ∷ asks "members 3\nwrite 1 7\ndeliver 1\nread 2 1\ndeliver 2\nread 3 1\ndeliver 3\ndeliver 1\ndeliver 1" "1" "1" "none\n"
-    ∷ asks "members 2\nwrite 1 7\ndeliver 1\nread 2 1\ndeliver 2\ndeliver 2\ndeliver 2\ndeliver 2\nread 2 1\ndeliver 2\ndeliver 1\ndeliver 1"
+    ∷ asks "members 2\nread 1 1\ndeliver 1\nread 2 1\ndeliver 2\ndeliver 2\ndeliver 2\ndeliver 2\nread 2 1\ndeliver 2\ndeliver 1\ndeliver 1"
     "1" "1" "none\n"
     -- own steps do not count: without step 2 the submit would come after the other
     ∷ asks "members 2\nwrite 1 7\ndeliver 1\nread 2 1\ndeliver 2\ndeliver 1\ndeliver 1\ndeliver 1" "1" "1" "3\n"
     -- a crash of the overtaker, or of a bystander, does nothing
     ∷ asks "members 3\ncrash 3\nwrite 1 7\ndeliver 1\nread 2 1\ncrash 2\ndeliver 2\ndeliver 1\ndeliver 1" "1" "1" "4\n"
-    -- the second operation, after an accepted one; and a step of two digits, after nine that are refused
+    -- the second operation, after an accepted one; and a step of two digits, after two that are refused
     ∷ asks "members 2\nread 1 2\ndeliver 1\ndeliver 1\ndeliver 1\ndeliver 1\nread 1 1\ndeliver 1\nread 2 1\ndeliver 2\ndeliver 1\ndeliver 1"
     "1" "2" "8\n"
-    ∷ asks "members 2\ndeliver 1\ndeliver 1\ndeliver 1\ndeliver 1\ndeliver 1\ndeliver 1\ndeliver 1\ndeliver 1\ndeliver 1\nwrite 1 7\ndeliver 1\nread 2 1\ndeliver 2\ndeliver 1\ndeliver 1"
-    "1" "1" "12\n"
+    ∷ record {
+      script = text "members 2\nread 1 2\ndeliver 1\ndeliver 1\ndeliver 1\ndeliver 1\ncrash 3\ncrash 3\n"
+          ++ text "read 1 1\ndeliver 1\nread 2 1\ndeliver 2\ndeliver 1\ndeliver 1";
+      count = 2;
+      first = "1";
+      second = "2";
+      output = "10\n";
+    }
     -- 31: accepted, unfinished, not there
     ∷ asks "members 2\nwrite 1 7\ndeliver 1\ndeliver 1\ndeliver 1\nread 2 1\ndeliver 2" "1" "1" "31\n"
     ∷ asks "members 2\nwrite 1 7\ndeliver 1\nread 2 1\ndeliver 2\ndeliver 1" "1" "1" "31\n"
+    ∷ asks "members 2\nwrite 1 7\ndeliver 1\ncrash 1\nread 2 1\ndeliver 2\ndeliver 1\ndeliver 1" "1" "1" "31\n"
     ∷ asked 2 "1" "2" "31\n"
     ∷ asked 2 "2" "1" "31\n"
     ∷ asked 2 "3" "1" "31\n"

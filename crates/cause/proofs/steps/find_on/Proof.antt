@@ -9,9 +9,8 @@ use native.Mathlib.Omega.{arith}
 use lib.ListN.{length, take, drop}
 use Rattle.model.specs.Overtaker.{mostBytes, overtaker}
 use Rattle.model.specs.Script.{lineFeed, firstOf, linesOf}
-use Rattle.model.specs.Cause.{unlessRefused, linesCause, mostLines, cause}
+use Rattle.model.specs.Cause.{unlessRefused, linesCause, cause}
 use Rattle.script.proofs.Lines.{before-within}
-use Rattle.overtaker.specs.declared.Overtaker.{Overtaker}
 use Rattle.cause.specs.Meaning.{heldCause}
 use Rattle.cause.proofs.Answers.{too-long, too-many, few-enough, refused-so, answered-so, overtaken-so}
 use Rattle.cause.proofs.steps.find_on.Statement.{statement}
