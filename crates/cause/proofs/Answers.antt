@@ -47,10 +47,6 @@ module _ (input : List ℕ) (i k : ℕ) where
       → Named (overtaker input i k)
   overtaken-so found e z = named-so (overtaker input i k) found (overtaker-numbered input i k) e z
 
-  pub too-long : mostBytes < length input → cause input i k ≡ refused 17
-  unfolding cause
-  too-long h = rw (lt-ltb mostBytes (length input) h)
-
   -- a script that is short enough, and its first line, which may be none
   module _ (short : length input ≤ mostBytes) (long : ℕ) (ends : long ≡ length (before lineFeed input)) where
     abbrev behind : List (List ℕ)

@@ -9,7 +9,8 @@ use mathlib.Core.Logic.{_⊎_, inl, inr}
 use mathlib.Core.Option.{Option, none, some}
 use native.Mathlib.Omega.{arith}
 use lib.Dec.{eqb}
-use borrow.Author.Tests.{eq-eqb, ne-eqb, eqb-true, eqb-false, not-true}
+use lib.ListN.{length}
+use borrow.Author.Tests.{eq-eqb, ne-eqb, eqb-true, eqb-false, lt-ltb, le-ltb, not-true}
 use Rattle.lists.proofs.Functions.{on, first, second, apart}
 use Rattle.model.specs.Kinds.{Kind}
 use Rattle.model.specs.Records.{Value}
@@ -19,12 +20,12 @@ use Rattle.model.specs.Reference.{Reference, refOpened, refAfter, refRun
 use Rattle.model.specs.History.{Op, Submit, Watch, watched}
 use Rattle.model.specs.Positions.{stepAt, IsDeliver, beganBy, begunCount, Decided}
 use Rattle.model.specs.Demand3.{Demand3}
-use Rattle.model.specs.Script.{caller}
-use Rattle.model.specs.Overtaker.{abortedOp, overtaking, overtakerIn}
-use Rattle.model.specs.Cause.{without, acceptedWithout, firstCause, causeIn}
+use Rattle.model.specs.Script.{firstOf, caller, linesOf}
+use Rattle.model.specs.Overtaker.{abortedOp, overtaking, overtakerIn, refuses, membersOvertaker, scriptOvertaker, mostBytes, overtaker}
+use Rattle.model.specs.Cause.{without, acceptedWithout, firstCause, causeIn, unlessRefused, mostLines, scriptCause, cause}
 use Rattle.model.specs.OvertakerClaims.{sampleCalls, sampleSeen}
 use Rattle.model.specs.CauseClaims.{Accepted, OfAnother, Costs, CauseAnswered, numberWithout, judgedBy, judged, SameOperations}
-use Rattle.model.specs.CauseClaims.{leftSeen, SampleCaused}
+use Rattle.model.specs.CauseClaims.{RefusalsInOrder, leftSeen, SampleCaused}
 use Rattle.model.proofs.OvertakerMarks.{Judged}
 use Rattle.model.proofs.Verdicts.{OneOf, no-step, judged-at}
 use Rattle.model.proofs.Overtaker.{none-or-some, FoundOp, op-found}
@@ -267,6 +268,25 @@ module _ (kind : Kind) (n : ℕ) (anew : List Call → List Seen) (calls : List 
   accepted-or-overtaken z e s other =
       verdict-told (without s calls) (anew (without s calls)) (watch s) (verdicts s) i k
       (overtaken-op (abortedOp i k (watch 0 .decided)) z e refl s other)
+
+-- The refusals, from the tests of the definition.
+
+no-bytes : (input : List ℕ) → length input ≡ 0 → linesOf input ≡ []
+unfolding linesOf
+no-bytes [] e = refl
+no-bytes (b ∷ input) e = absurd (omega arith)
+
+pub refusals-in-order : (input : List ℕ) (i k : ℕ) → RefusalsInOrder input i k
+unfolding cause scriptCause overtaker scriptOvertaker unlessRefused
+refusals-in-order input i k = record {
+  tooLong = λ h. rw (lt-ltb mostBytes (length input) h);
+  tooMany = λ line lines short split many. rw (le-ltb mostBytes (length input) short, split, lt-ltb mostLines (length lines) many);
+  asEarlier = λ line lines short split few number e.
+      let same : membersOvertaker (firstOf line) lines i k ≡ refuses number =
+      rw (le-ltb mostBytes (length input) short, split) at e in
+      rw (le-ltb mostBytes (length input) short, split, le-ltb mostLines (length lines) few, same);
+  noLine = λ e. rw (le-ltb mostBytes (length input) (omega arith), no-bytes input e);
+}
 
 -- The words of the claims, on a run by hand: every position is computed.
 

@@ -1,16 +1,19 @@
 -- What is claimed of a step that cost an operation, of none, and of the operations of its member where another's step is left out: about
 -- the steps of the runs alone, whatever the watcher's own definitions are. Everywhere `at s` is the step of each number in the run
 -- without step s, and `at 0` in the whole run.
-use Prim.Native.Nat.{ℕ, _-_, _<_}
+use Prim.Native.Nat.{ℕ, _-_, _≤_, _<_}
 use mathlib.Core.Path.{_≡_}
 use mathlib.Core.Bool.{Bool, true, false, cond, _&&_, _||_}
 use mathlib.Core.List.{List, [], _∷_}
 use mathlib.Core.Option.{Option, none, some}
 use lib.Dec.{eqb, leb}
+use lib.ListN.{length}
 use Rattle.model.specs.Runs.{Call, begin, deliver, crash, Seen, Step, step}
 use Rattle.model.specs.Positions.{IsDeliver, beganBy, begunCount}
-use Rattle.model.specs.Script.{caller}
+use Rattle.model.specs.Script.{caller, linesOf}
+use Rattle.model.specs.Overtaker.{refuses, overtaker}
 use Rattle.model.specs.OvertakerClaims.{sampleStep}
+use Rattle.model.specs.Cause.{refused, cause}
 
 -- Both answers.
 
@@ -78,6 +81,18 @@ pub record SameOperations (whole left : ℕ → Option Step) (i s : ℕ) : Type 
   pub verdicts : (k : ℕ) → 0 < k → (k ≡ s → ⊥) → judgedBy i (left (numberWithout s k)) ≡ judgedBy i (whole k)
   -- so that after each line the member has begun as many operations
   pub ordinals : (k : ℕ) → begunCount left i (numberWithout s k) ≡ begunCount whole i k
+
+-- The refusals, in their order.
+pub record RefusalsInOrder (input : List ℕ) (i k : ℕ) : Type 0 where
+  -- "17 for .. a longer script"
+  pub tooLong : 65535 < length input → cause input i k ≡ refused 17
+  -- "then 35, more than 256 lines after the first, before any is read"
+  pub tooMany : (first : List ℕ) (lines : List (List ℕ)) → length input ≤ 65535 → linesOf input ≡ first ∷ lines → 256 < length lines
+      → cause input i k ≡ refused 35
+  -- "then 17, 1 and 31 as for the earlier tool"
+  pub asEarlier : (first : List ℕ) (lines : List (List ℕ)) → length input ≤ 65535 → linesOf input ≡ first ∷ lines → length lines ≤ 256
+      → (number : ℕ) → overtaker input i k ≡ refuses number → cause input i k ≡ refused number
+  pub noLine : length input ≡ 0 → cause input i k ≡ refused 17
 
 -- The run by hand of OvertakerClaims.antt without its step 3, member 2's begin: that member's begin on its own slot, refused before, is now
 -- answered 0, the submit is on that slot, and member 1's write is accepted.

@@ -10,9 +10,10 @@ use lib.ListN.{length, take, drop}
 use Rattle.model.specs.Overtaker.{mostBytes, overtaker}
 use Rattle.model.specs.Script.{lineFeed, firstOf, linesOf}
 use Rattle.model.specs.Cause.{unlessRefused, linesCause, cause}
+use Rattle.model.proofs.Cause.{refusals-in-order}
 use Rattle.script.proofs.Lines.{before-within}
 use Rattle.cause.specs.Meaning.{heldCause}
-use Rattle.cause.proofs.Answers.{too-long, too-many, few-enough, refused-so, answered-so, overtaken-so}
+use Rattle.cause.proofs.Answers.{too-many, few-enough, refused-so, answered-so, overtaken-so}
 use Rattle.cause.proofs.steps.find_on.Statement.{statement}
 use Rattle.cause.proofs.steps.find_on.Tie as tie
 
@@ -66,7 +67,7 @@ first c = counted (few c .before)
 returns : tie.Need-returns
 returns c =
     let a = c .before .before .before .before .args in
-    c .refused .ensures ∙ ap heldCause (sym (too-long (a .script .now) (a .member) (a .ordinal) (c .before .if1 .taken)))
+    c .refused .ensures ∙ ap heldCause (sym (refusals-in-order (a .script .now) (a .member) (a .ordinal) .tooLong (c .before .if1 .taken)))
 
 add-count-lines : tie.Need-add-count-lines
 add-count-lines c = omega (arith, short c, c .line-length .ensures, before-within lineFeed (script c))
