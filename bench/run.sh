@@ -42,13 +42,33 @@ program() {
     done
 }
 
-# The tool that names who overtook an operation beside the board program, on one script of 65,535 bytes: a hundred runs of each, by turns.
+# by_turns WHAT ROUNDS BOARD_SCRIPT TOOL_SCRIPT TOOL: the board program on one script and target/bin/TOOL 1 1 on the other, so many runs of each.
+by_turns() {
+    local board=target/bin/concur_board tool=target/bin/$5 times round
+    for round in $(seq "$2"); do
+        times=${EPOCHREALTIME/./}
+        "$board" <"$3" >"$out/printed"
+        times="$times ${EPOCHREALTIME/./}"
+        "$tool" 1 1 <"$4" >"$out/printed"
+        echo "$times ${EPOCHREALTIME/./}"
+    done | awk -v what="$1" -v name="$5" '{ a = $2 - $1; b = $3 - $2
+            if (NR == 1 || a < board) board = a; if (NR == 1 || b < tool) tool = b }
+        END { printf "%s, the best of %d runs: concur_board %d us, %s %d us, ratio %.2f\n", what, NR, board, name, tool, tool / board }'
+}
+
+# built PROGRAM..: are they there? What a tool is timed beside is the board program.
+built() {
+    local program
+    for program in "$@"; do
+        [ -x "target/bin/$program" ] && continue
+        echo "not timed: $* (there is no target/bin/$program: rt check $program)"
+        return 1
+    done
+}
+
+# The tool that names who overtook an operation beside the board program, on one script of 65,535 bytes.
 overtaker() {
-    local board=target/bin/concur_board tool=target/bin/concur_overtaker times round
-    if [ ! -x "$board" ] || [ ! -x "$tool" ]; then
-        echo "the overtaker is not timed: there is no $board or no $tool (rt check concur_board concur_overtaker)"
-        return
-    fi
+    built concur_board concur_overtaker || return 0
     # Two members' operations on one slot cross, the next two's on the next; lines that are refused fill what is left.
     awk 'BEGIN { print "members 12"; left = 65535 - 11
         while (1) { m = k % 12 + 1; r = (k + 1) % 12 + 1; k++
@@ -59,16 +79,23 @@ overtaker() {
         while (left >= 20) { print "deliver 0"; left -= 10 }
         printf "write 0 "; for (left -= 9; left > 0; left--) printf "1"; print "" }' >"$out/script"
     [ "$(wc -c <"$out/script")" -eq 65535 ]
-    [ "$("$tool" 1 1 <"$out/script")" = "2 4" ]
-    for round in $(seq 100); do
-        times=${EPOCHREALTIME/./}
-        "$board" <"$out/script" >"$out/printed"
-        times="$times ${EPOCHREALTIME/./}"
-        "$tool" 1 1 <"$out/script" >"$out/printed"
-        echo "$times ${EPOCHREALTIME/./}"
-    done | awk '{ a = $2 - $1; b = $3 - $2; if (NR == 1 || a < board) board = a; if (NR == 1 || b < tool) tool = b }
-        END { printf "65,535 bytes, the best of %d runs: concur_board %d us, concur_overtaker %d us, ratio %.2f\n",
-            NR, board, tool, tool / board }'
+    [ "$(target/bin/concur_overtaker 1 1 <"$out/script")" = "2 4" ]
+    by_turns "65,535 bytes" 100 "$out/script" "$out/script" concur_overtaker
+}
+
+# The tool that finds the step that cost an operation on a script of 256 steps of which none is found, beside the board program on 65,536:
+# these steps over and over. Members 2 and 3 overtake member 1 at the start, its verdict falls at the end, and in between others are busy.
+cause() {
+    built concur_board concur_cause || return 0
+    awk 'BEGIN { print "write 1 7\ndeliver 1\nread 2 1\ndeliver 2\nread 3 1\ndeliver 3"
+        for (k = 0; lines < 248; k++) { m = 4 + k % 9; print "read " m " " 4 + (k + 1) % 9; lines++
+            for (i = 0; i < 4 && lines < 248; i++) { print "deliver " m; lines++ } }
+        print "deliver 1\ndeliver 1" }' >"$out/steps"
+    [ "$(wc -l <"$out/steps")" -eq 256 ]
+    (echo "members 12"; cat "$out/steps") >"$out/script"
+    (echo "members 12"; for _ in $(seq 256); do cat "$out/steps"; done) >"$out/long"
+    [ "$(target/bin/concur_cause 1 1 <"$out/script")" = none ]
+    by_turns "256 steps beside 65,536" 40 "$out/long" "$out/script" concur_cause
 }
 
 # earlier CRATE PROGRAM: bench/PROGRAM.rs with the crate's archive here and, each of its functions under another name, the revision's. They
@@ -96,3 +123,4 @@ archive board
 timed board target/staticlib/libboard.a
 program
 overtaker
+cause

@@ -69,15 +69,6 @@ behind c =
     let a = start l .args in
     ahead (a .script .now) (a .skip) (l .loop .number + 1) (l .loop .at + c .line-length .result + 1)
 
--- the line runs
-ran-here : (c : tie.Else1 Inv-loop μ-loop) → let here = c .before in let l = round (c .before) .before in let a = start l .args in
-    ahead (a .script .now) (a .skip) (l .loop .number) (l .loop .at) ≡ line here ∷ behind here
-ran-here c =
-    let here = c .before in
-    let l = round here .before in
-    let a = start l .args in
-    runs-line (a .script .now) (a .skip) (l .loop .at) (here .line-length .result) (next here) (l .loop .number) (c .if1 .left)
-
 abbrev tested : tie.After-run-line Inv-loop μ-loop → tie.Else1 Inv-loop μ-loop
 tested c = c .before .before .before
 
@@ -138,6 +129,16 @@ loop-again c =
           ∙ ap (linesSearched (a .member) (a .ordinal) (l .loop .table) (searchOf (l .loop .search)))
           (skips-line (a .script .now) (a .skip) (l .loop .at) (here .line-length .result) (next here) (l .loop .number) (c .if1 .taken));
     }
+
+-- A line that runs.
+
+ran-here : (c : tie.Else1 Inv-loop μ-loop) → let here = c .before in let l = round (c .before) .before in let a = start l .args in
+    ahead (a .script .now) (a .skip) (l .loop .number) (l .loop .at) ≡ line here ∷ behind here
+ran-here c =
+    let here = c .before in
+    let l = round here .before in
+    let a = start l .args in
+    runs-line (a .script .now) (a .skip) (l .loop .at) (here .line-length .result) (next here) (l .loop .number) (c .if1 .left)
 
 part-run-line-end : tie.Need-part-run-line-end Inv-loop μ-loop
 part-run-line-end c = let n = next (c .before .before) in search needs
