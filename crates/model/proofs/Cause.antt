@@ -164,7 +164,7 @@ module _ (kind : Kind) (n : ℕ) (anew : List Call → List Seen) (calls : List 
   unfolding causeIn
   cause-answered = answer-of (firstCause i test 1 calls) refl
 
-  -- MEMBER and ORDINAL name the same operation without another's step.
+  -- A member and an ordinal name the same operation without another's step.
   pub left-out : (s : ℕ) → OfAnother i (at 0 s) → SameOperations (at 0) (at s) i s
   left-out s o =
       let without-it : stepAt (without s calls) (refRun kind n refOpened (without s calls)) ≡ at s =

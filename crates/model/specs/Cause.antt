@@ -30,7 +30,8 @@ unfoldable pub hasAccepted : ℕ → ℕ → List Op → Bool
 hasAccepted i k [] = false
 hasAccepted i k (o ∷ ops) = isAccepted i k o || hasAccepted i k ops
 
--- "would have let the aborted operation be accepted": the calls without the s-th, run anew from the opening; `anew` is such a run
+-- "would have let an aborted operation be accepted": the calls without the s-th, run anew from the opening; `anew` is such a run, and the
+-- others have the effect that they have there
 unfoldable pub acceptedWithout : (List Call → List Seen) → List Call → ℕ → ℕ → ℕ → Bool
 acceptedWithout anew calls i k s =
     let left = without s calls in

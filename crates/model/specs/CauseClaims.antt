@@ -23,7 +23,7 @@ pub record Accepted (at : ℕ → Option Step) (i k : ℕ) : Type 0 where
   pub verdict : IsDeliver i 4 none (at verdictAt)
   pub itsVerdict : begunCount at i verdictAt ≡ k
 
--- a step of another member than i: "begin, deliver or crash, refused or not"
+-- "step of another member": of another than i, begin, deliver or crash, refused or not
 abbrev pub OfAnother : ℕ → Option Step → Type 0
 OfAnother i none = ⊥
 OfAnother i (some (step call s)) = caller call ≡ i → ⊥
@@ -33,17 +33,17 @@ pub record Costs (at : ℕ → ℕ → Option Step) (i k s : ℕ) : Type 0 where
   pub another : OfAnother i (at 0 s)
   pub accepted : Accepted (at s) i k
 
--- "`some s` means accepted without s and not accepted without any earlier step of another"
+-- it is the first that did: without s the operation was accepted, and without no earlier step of another
 pub record FirstCost (at : ℕ → ℕ → Option Step) (i k s : ℕ) : Type 0 where
   pub costs : Costs at i k s
   pub first : (t : ℕ) → t < s → Costs at i k t → ⊥
 
--- "`none` means accepted without no step of another"
+-- where none is found, it was accepted without no step of another
 abbrev pub CauseAnswered : (ℕ → ℕ → Option Step) → ℕ → ℕ → Option ℕ → Type 0
 CauseAnswered at i k (some s) = FirstCost at i k s
 CauseAnswered at i k none = (t : ℕ) → Costs at i k t → ⊥
 
--- That MEMBER and ORDINAL name the same operation where another's step is left out.
+-- That a member and an ordinal name the same operation where another's step is left out.
 
 -- the number of step k where step s is left out; at s itself, that of the step before it
 abbrev pub numberWithout : ℕ → ℕ → ℕ
@@ -61,11 +61,12 @@ pub data SamePhase : ℕ → ℕ → Type 0 where
   same : (p : ℕ) → SamePhase p p
   judged : (a b : Bool) → SamePhase (cond a 4 5) (cond b 4 5)
 
--- the same call; where it is member i's, the same answer and the same phase of i after it, but for the verdict
+-- what is seen at a call in both runs: the same answer where it is member i's, and i's phase after it is the same, but for the verdict
 pub record SameSeen (i : ℕ) (call : Call) (s t : Seen) : Type 0 where
   pub answer : caller call ≡ i → s .answer ≡ t .answer
   pub phase : SamePhase (s .phases i) (t .phases i)
 
+-- the same call, and that of it
 abbrev pub SameStep : ℕ → Option Step → Option Step → Type 0
 SameStep i none none = Unit {0}
 SameStep i none (some (step d t)) = ⊥
@@ -75,9 +76,9 @@ SameStep i (some (step c s)) (some (step d t)) = (c ≡ d) × SameSeen i c s t
 -- Of the runs `whole`, and `left` without its step s.
 pub record SameOperations (whole left : ℕ → Option Step) (i s : ℕ) : Type 0 where
   pub steps : (k : ℕ) → 0 < k → (k ≡ s → ⊥) → SameStep i (whole k) (left (numberWithout s k))
-  -- "which begins of MEMBER are answered 0"
+  -- it does not move which begins of member i are answered 0
   pub begins : (k : ℕ) → 0 < k → (k ≡ s → ⊥) → beganBy i (left (numberWithout s k)) ≡ beganBy i (whole k)
-  -- "at which of its lines its verdict falls"
+  -- nor at which of its lines its verdicts fall
   pub verdicts : (k : ℕ) → 0 < k → (k ≡ s → ⊥) → judgedBy i (left (numberWithout s k)) ≡ judgedBy i (whole k)
   -- so that after each line the member has begun as many operations
   pub ordinals : (k : ℕ) → begunCount left i (numberWithout s k) ≡ begunCount whole i k
