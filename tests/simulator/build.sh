@@ -1,8 +1,8 @@
 #!/bin/bash
 # Usage: build.sh OUTDIR
-# Builds simulator, overtaker_simulator, selftest, gen_scripts, compare_overtakers,
-# and with the stub library capi, interleavings and halves. For the real
-# libraries: link.sh OUTDIR PROGRAM LIBRARY..
+# Builds simulator, overtaker_simulator, cause_simulator, selftest, gen_scripts,
+# compare_tools, and with the stub library capi, interleavings and halves. For
+# the real libraries: link.sh OUTDIR PROGRAM LIBRARY..
 set -e
 if [ $# -ne 1 ]; then
     echo "usage: build.sh OUTDIR"
@@ -12,8 +12,10 @@ mkdir -p "$1"
 out=$(readlink -f "$1")
 cd "$(dirname "$0")"
 rustc -O --edition 2021 main_sim.rs -o "$out/simulator"
-rustc -O --edition 2021 overtaker_sim.rs -o "$out/overtaker_simulator"
-for program in selftest gen_scripts compare_overtakers; do
+for tool in overtaker cause; do
+    rustc -O --edition 2021 "${tool}_sim.rs" -o "$out/${tool}_simulator"
+done
+for program in selftest gen_scripts compare_tools; do
     rustc -O --edition 2021 "$program.rs" -o "$out/$program"
 done
 rustc -O --edition 2021 -C panic=abort --crate-type staticlib stub_library.rs -o "$out/libconcur_stub.a"

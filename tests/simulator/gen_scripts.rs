@@ -11,7 +11,7 @@ mod script_cases;
 use fixed_scripts::fixed_scripts;
 use folder::Folder;
 use rng::Rng;
-use script_cases::{any_script, random_script};
+use script_cases::{any_script, random_script, Manner, USUAL};
 
 /// Scripts as long as the board program takes, and longer.
 fn limits(folder: &mut Folder, rng: &mut Rng) {
@@ -32,8 +32,9 @@ fn limits(folder: &mut Folder, rng: &mut Rng) {
         text.extend_from_slice(b"write 1 5\ndeliver 1\ndeliver 1\ndeliver 1\ndeliver 1\n");
     }
     folder.put("limit_busy", &text);
+    let manner = Manner { steps: 150_000, slots: 8, crash_once_in: 1_000_000_000, bad_once_in: 40, ..USUAL };
     for n in [3, 12] {
-        let text = random_script(rng, n, 150_000, 8, 1_000_000_000, 40);
+        let text = random_script(rng, n, &manner);
         folder.put(&format!("long_run_{}", n), &text);
     }
 }

@@ -1,28 +1,36 @@
 #!/bin/bash
-# Usage: mutants.sh OUTDIR   (after build.sh OUTDIR)
+# Usage: mutants.sh OUTDIR [PATTERN]   (after build.sh OUTDIR)
 # Makes wrong stub libraries, wrong simulators and wrong tools, one fault each,
-# and sees that capi, interleavings, halves, compare_scripts.sh, compare_overtakers,
-# overtaker_pipe.sh or selftest notices every one.
-if [ $# -ne 1 ] || [ ! -x "$1/simulator" ]; then
-    echo "usage: mutants.sh OUTDIR, after build.sh OUTDIR"
+# and sees that capi, interleavings, halves, compare_scripts.sh, compare_tools,
+# overtaker_pipe.sh, cause_pipe.sh or selftest notices every one. With a pattern
+# only those whose name it matches.
+if [ $# -lt 1 ] || [ $# -gt 2 ] || [ ! -x "$1/simulator" ]; then
+    echo "usage: mutants.sh OUTDIR [PATTERN], after build.sh OUTDIR"
     exit 2
 fi
 out=$(readlink -f "$1")
 here=$(readlink -f "$(dirname "$0")")
 work=$out/mutants
 shared=$out/shared
+pattern=${2:-}
 noticed=0
 missed=0
 
-spoil() { # file, perl change
+wanted() { # name
+    [[ $1 =~ $pattern ]]
+}
+
+spoil() { # files, perl change, which must change each of them
     rm -rf "$work"
     mkdir -p "$work/source"
     cp "$here"/*.rs "$work/source/"
-    perl -0pi -e "$2" "$work/source/$1"
-    if cmp -s "$here/$1" "$work/source/$1"; then
-        echo "NOT CHANGED: $2"
-        exit 2
-    fi
+    for file in $1; do
+        perl -0pi -e "$2" "$work/source/$file"
+        if cmp -s "$here/$file" "$work/source/$file"; then
+            echo "NOT CHANGED: $file by $2"
+            exit 2
+        fi
+    done
 }
 
 verdict() { # name, 1 if noticed, by what
@@ -40,6 +48,7 @@ shared_library() { # source folder
 }
 
 library() { # name, file, perl change, "too" where interleavings is asked in any case
+    wanted "$1" || return
     spoil "$2" "$3"
     shared_library "$work/source"
     by=""
@@ -59,17 +68,21 @@ ask_halves() { # name, of the wrong library that stands there
 }
 
 half() { # name, file, perl change: what capi and interleavings cannot notice
+    wanted "$1" || return
     spoil "$2" "$3"
     shared_library "$work/source"
     ask_halves "$1"
 }
 
 everywhere() { # name, perl change to what board and halves share in board.rs, "too": each is asked
+    wanted "$1" || return
     library "$1" board.rs "$2" "$3"
     ask_halves "$1, in the halves"
 }
 
-ask_selftest() { # name, of the wrong simulator that stands there
+alone() { # name, files, perl change: what the simulator must notice by itself
+    wanted "$1" || return
+    spoil "$2" "$3"
     rustc -A warnings -O --edition 2021 "$work/source/selftest.rs" -o "$work/wrong" || exit 2
     if "$work/wrong" 1 3 > "$work/log" 2>&1; then
         verdict "$1" 0
@@ -78,12 +91,8 @@ ask_selftest() { # name, of the wrong simulator that stands there
     fi
 }
 
-alone() { # name, file, perl change: what the simulator must notice by itself
-    spoil "$2" "$3"
-    ask_selftest "$1"
-}
-
 program() { # name, file, perl change
+    wanted "$1" || return
     spoil "$2" "$3"
     rustc -A warnings -O --edition 2021 "$work/source/main_sim.rs" -o "$work/wrong" || exit 2
     if "$here/compare_scripts.sh" "$work/wrong" "$out/simulator" "$out/scripts" > "$work/log"; then
@@ -93,36 +102,55 @@ program() { # name, file, perl change
     fi
 }
 
-wrong_tool() { # file, perl change
-    spoil "$1" "$2"
-    rustc -A warnings -O --edition 2021 "$work/source/overtaker_sim.rs" -o "$work/wrong" || exit 2
+wrong_tool() { # tool, files, perl change
+    spoil "$2" "$3"
+    rustc -A warnings -O --edition 2021 "$work/source/$1_sim.rs" -o "$work/wrong" || exit 2
 }
 
-compare_tool() { # tool, log
-    "$out/compare_overtakers" "$out/overtaken" 1 50 "$1" > "$2" 2>&1
+compare_tool() { # tool, program, log
+    "$out/compare_tools" "$1" "$out/asked_$1" 1 50 "$2" > "$3" 2>&1
 }
 
-tool() { # name, file, perl change: a wrong tool that names who overtook an operation
-    wrong_tool "$2" "$3"
-    if compare_tool "$work/wrong" "$work/log"; then
-        verdict "$1" 0
+tool() { # tool, name, files, perl change: a wrong tool that is asked about an operation
+    wanted "$1: $2" || return
+    wrong_tool "$1" "$3" "$4"
+    if compare_tool "$1" "$work/wrong" "$work/log"; then
+        verdict "$1: $2" 0
     else
-        verdict "$1" 1 "$(grep -a DIFF "$work/log" | head -1 | sed "s/^DIFF.*wrong//" | cut -c1-160)"
+        verdict "$1: $2" 1 "$(grep -a DIFF "$work/log" | head -1 | sed "s/^DIFF.*wrong//" | cut -c1-160)"
     fi
 }
 
-overtaker() { # name, perl change to overtaker.rs, which the simulator must notice by itself too
-    tool "$1" overtaker.rs "$2"
-    ask_selftest "$1, alone"
+overtaker() { # name, perl change to overtaker.rs or the files named, which the simulator must notice by itself too
+    tool overtaker "$1" "${3:-overtaker.rs}" "$2"
+    alone "overtaker alone: $1" "${3:-overtaker.rs}" "$2"
 }
 
-piped_tool() { # name, perl change to overtaker_sim.rs: what shows through a pipe alone
-    wrong_tool overtaker_sim.rs "$2"
-    if bash "$here/../overtaker_pipe.sh" "$work/wrong" > "$work/log" 2>&1; then
-        verdict "$1" 0
-    else
-        verdict "$1" 1 "$(tail -1 "$work/log")"
-    fi
+cause() { # the same of cause.rs
+    tool cause "$1" "${3:-cause.rs}" "$2"
+    alone "cause alone: $1" "${3:-cause.rs}" "$2"
+}
+
+both_tools() { # name, file, perl change to what the tools share
+    tool overtaker "$1" "$2" "$3"
+    tool cause "$1" "$2" "$3"
+}
+
+asked() { # name, perl change to asked.rs, which the simulator must notice by itself too
+    both_tools "$1" asked.rs "$2"
+    alone "tools alone: $1" asked.rs "$2"
+}
+
+piped_tools() { # name, perl change to tool_main.rs: what shows through a pipe alone
+    for piped in overtaker cause; do
+        wanted "$piped: $1" || continue
+        wrong_tool "$piped" tool_main.rs "$2"
+        if bash "$here/../${piped}_pipe.sh" "$work/wrong" > "$work/log" 2>&1; then
+            verdict "$piped: $1" 0
+        else
+            verdict "$piped: $1" 1 "$(tail -1 "$work/log")"
+        fi
+    done
 }
 
 # The programs are linked once, against a shared library that is then
@@ -482,117 +510,276 @@ alone "alone: the book counts begins on all slots" reference.rs \
 alone "alone: the book asks 9 before 8" reference.rs 's/(return 8;)/if m.begins[slot as usize - 1] >= self.limit { return 9; } $1/'
 
 # Who overtook an operation: which submit, of all that the host took.
-compare_tool "$out/overtaker_simulator" "$shared/log" || { echo "the right tool does not pass"; tail -1 "$shared/log"; exit 2; }
+for right in overtaker cause; do
+    compare_tool "$right" "$out/${right}_simulator" "$shared/log" || { echo "the right tool does not pass"; tail -1 "$shared/log"; exit 2; }
+done
 found='Ok\(\(\*first.expect\(.*?\)\).clone\(\)\)'
 or_31='first.map(|submit| (*submit).clone()).ok_or(Ground::NoOperation)'
+is_aborted='let operation = self.aborted\(member, ordinal\)\?;'
 overtaker "the last who overtook" 's/min_by_key/max_by_key/'
 overtaker "the lowest member who overtook" 's/(min_by_key.*?)submit.step/$1submit.member/'
 overtaker "the step of the overtaker's begin" \
-    "s/$found/let mut first = (*first.unwrap()).clone(); first.step = self.operations.iter().find(|other| other.submit == Some(first.step)).unwrap().begin; Ok(first)/"
+    "s/$found/let mut first = (*first.unwrap()).clone(); \
+        first.step = self.operations.iter().find(|other| other.submit == Some(first.step)).unwrap().begin; Ok(first)/"
 overtaker "a submit on another slot" 's/submit.slot == operation.slot/true/'
 overtaker "a submit on another slot alone" "s/submit.slot == operation.slot/submit.slot != operation.slot/; s/$found/$or_31/"
 overtaker "a submit before the own, since the begin" 's/submit.step > from/submit.step > operation.begin \&\& submit.step != from/'
 overtaker "a submit at any time before the own" 's/submit.step > from/submit.step != from/'
 overtaker "the own submit" 's/submit.step > from/submit.step >= from/'
-overtaker "a submit after the reply alone" "s/phase == REPLY_SENT/phase == 3/; s/$found/$or_31/"
+overtaker "a submit after the reply alone" "s/phase == REPLY_SENT/phase == 3/; s/$found/$or_31/" "asked.rs overtaker.rs"
 overtaker "a submit before the reply alone" \
-    "s/\\} else if phase == ACC/} else if phase == 3 { operation.commit = Some(at); } else if phase == ACC/; s/commit = Some\\(at\\);\\n/commit = operation.commit.or(Some(at));\\n/; s/$found/$or_31/"
+    "s/\\} else if phase == ACC/} else if phase == 3 { operation.commit = Some(at); } else if phase == ACC/; \
+        s/commit = Some\\(at\\);\\n/commit = operation.commit.or(Some(at));\\n/; s/$found/$or_31/" \
+    "asked.rs overtaker.rs"
 overtaker "an accepted operation, by a submit behind its verdict" \
-    's/ && submit.step < to//; s/!operation.aborted \{/self.between(operation).is_empty() {/'
+    's/ && submit.step < to//;
+        s/self.aborted(\(member, ordinal\))\?/self.named$1.filter(|named| !self.between(named).is_empty()).ok_or(Ground::Accepted)?/'
 overtaker "an accepted operation, by its own submit" \
-    's/return Err\(Ground::Accepted\)/return Ok(Submit { step: operation.submit.unwrap(), member, slot: operation.slot })/'
+    "s/$is_aborted/let Ok(operation) = self.aborted(member, ordinal) else { \
+        let own = self.named(member, ordinal).filter(|own| own.commit.is_some()).ok_or(Ground::NoOperation)?; \
+        return Ok(Submit { step: own.submit.unwrap(), member, slot: own.slot }); };/"
 overtaker "an operation without a verdict" \
-    's/return Err\(Ground::NoVerdict\)/let later = |submit: \&\&Submit| submit.slot == operation.slot \&\& operation.submit.is_some_and(|own| submit.step > own);\n            return self.submits.iter().find(later).cloned().ok_or(Ground::NoVerdict)/'
-overtaker "an abort counts when it is told" \
-    's/(pub aborted: bool)/pub told: bool, $1/; s/(aborted: false)/told: false, $1/; s/(operation.aborted = phase.*?\n        \})/$1 else if phase == 0 { operation.told = true; }/; s/!operation.aborted \{/!operation.aborted || !operation.told {/'
-overtaker "a crash behind the verdict takes the abort away" \
-    's/Step::Crash \{ \.\. \} => \{\}/Step::Crash { member } => { for other in self.operations.iter_mut().rev().filter(|other| other.member == member).take(1) { other.aborted = false; } }/'
+    "s/$is_aborted/let Ok(operation) = self.aborted(member, ordinal) else { \
+        let own = self.named(member, ordinal).filter(|own| own.commit.is_none()).ok_or(Ground::NoOperation)?; \
+        let later = |submit: \\&\\&Submit| submit.slot == own.slot \\&\\& own.submit.is_some_and(|from| submit.step > from); \
+        return self.submits.iter().find(later).cloned().ok_or(Ground::NoVerdict); };/"
+told='s/(pub aborted: bool)/pub told: bool, $1/; s/(aborted: false)/told: false, $1/;
+    s/(operation.aborted = phase.*?\n        \})/$1 else if phase == 0 { operation.told = true; }/'
+asked "an abort counts when it is told" "$told; s/!operation.aborted \\{/!operation.aborted || !operation.told {/"
+asked "a crash behind the verdict takes the abort away" \
+    's/Step::Crash \{ \.\. \} => \{\}/Step::Crash { member } => {
+        for other in self.operations.iter_mut().rev().filter(|other| other.member == member).take(1) { other.aborted = false; } }/'
 mark='table[crate::board::block_start(table[0], member) + 1] == 1'
 delivered='(Step::Deliver \{ member \} => )(self.note_deliver\(.*?\)\)),'
 overtaker "a crashed member's submit overtakes nobody" \
-    "s/$delivered/\$1 { \$2; if phase_of(table, member) == REPLY_SENT \\&\\& $mark { self.submits.pop(); } }/; s/$found/$or_31/"
-overtaker "a crashed member's commit has no verdict" "s/$delivered/\$1 if phase_of(table, member) == REPLY_SENT || !($mark) { \$2 }/; s/$found/$or_31/"
-overtaker "an owner's submit overtakes nobody" "s/(self.submits.push\\(.*?\\);)/if member != operation.slot { \$1 }/; s/$found/$or_31/"
-overtaker "another's submit overtakes nobody" "s/(self.submits.push\\(.*?\\);)/if member == operation.slot { \$1 }/; s/$found/$or_31/"
+    "s/$delivered/\$1 { \$2; if phase_of(table, member) == REPLY_SENT \\&\\& $mark { self.submits.pop(); } }/; s/$found/$or_31/" \
+    "asked.rs overtaker.rs"
+asked "a crashed member's commit has no verdict" "s/$delivered/\$1 if phase_of(table, member) == REPLY_SENT || !($mark) { \$2 }/"
+overtaker "an owner's submit overtakes nobody" \
+    "s/(self.submits.push\\(.*?\\);)/if member != operation.slot { \$1 }/; s/$found/$or_31/" "asked.rs overtaker.rs"
+overtaker "another's submit overtakes nobody" \
+    "s/(self.submits.push\\(.*?\\);)/if member == operation.slot { \$1 }/; s/$found/$or_31/" "asked.rs overtaker.rs"
+
+# The step that cost an operation: which steps are tried.
+tried='step.member\(\) != member && '
+again='accepted\(run.n, &without\(&run.steps, left_out\), member, ordinal\)'
+operation='run.seen.named(member, ordinal).unwrap()'
+cause "the latest step" 's/(\.enumerate\(\)) \{/$1.rev() {/'
+cause "own steps are tried too" "s/$tried//"
+cause "own steps alone are tried" 's/step.member\(\) != member/step.member() == member/'
+for untried in "delivers: matches!(step, Step::Deliver { .. })" "begins: matches!(step, Step::Write { .. } | Step::Read { .. })" \
+    "writes: matches!(step, Step::Write { .. })" "step 1: before == 0" "steps above 200: left_out > 200" \
+    "steps before the operation's begin: left_out < $operation.begin" "steps before its submit: Some(left_out) < $operation.submit" \
+    "steps after its submit: Some(left_out) > $operation.submit" \
+    "a crashed member: run.steps.contains(\\&Step::Crash { member: step.member() })" \
+    "what comes before the member's last begin: run.seen.operations.iter().any(|other| other.member == step.member() \\&\\& \
+        other.begin > left_out \\&\\& Some(other.begin) < $operation.commit)"; do
+    cause "untried are ${untried%%: *}" "s/($tried)/\$1!(${untried#*: }) \\&\\& /"
+done
+
+# What is left out, and what counts then.
+removed='steps.remove\(left_out as usize - 1\);'
+at='left_out as usize - 1'
+cause "the line behind it is left out too" "s/($removed)/\$1 if left_out as usize <= steps.len() { \$1 }/"
+cause "the line before it is left out too" "s/($removed)/\$1 if left_out > 1 { steps.remove(left_out as usize - 2); }/"
+cause "the line behind it is left out" "s/$removed/steps.remove(left_out as usize % steps.len());/"
+cause "its member's next line is left out too" \
+    "s/($removed)/let by = steps[$at].member(); \$1 \
+        if let Some(next) = steps.iter().skip($at).position(|other| other.member() == by) { steps.remove($at + next); }/"
+cause "all later lines of its member are left out" \
+    "s/($removed)/let by = steps[$at].member(); let mut place = 0; \
+        steps.retain(|other| { place += 1; place < left_out || other.member() != by });/"
+cause "all lines of its member are left out" "s/($removed)/let by = steps[$at].member(); steps.retain(|other| other.member() != by);/"
+cause "all lines from it on are left out" "s/($removed)/steps.truncate($at);/"
+cause "a begin's four delivers are left out with it" \
+    "s/($removed)/let gone = steps[$at].clone(); \$1 let mut place = 0; \
+        let mut left = if matches!(gone, Step::Deliver { .. }) { 0 } else { 4 }; steps.retain(|other| { place += 1; \
+        let one = place >= left_out \\&\\& left > 0 \\&\\& *other == Step::Deliver { member: gone.member() }; left -= one as u32; !one });/"
+cause "the line is doubled" "s/($removed)/let again = steps[$at].clone(); steps.insert($at, again);/"
+cause "the line goes to the start" "s/$removed/let first = steps.remove($at); steps.insert(0, first);/"
+others='(1..=run.steps.len() as u32).filter(|at| run.steps[*at as usize - 1].member() != member)'
+cause "two lines together where no one does" \
+    "s/    Ok\\(Cause::None\\)\\n/    let others: Vec<u32> = $others.collect(); let two = |one: u32, other: u32| \
+        one < other \\&\\& accepted(run.n, \\&without(\\&without(\\&run.steps, other), one), member, ordinal); \
+        let first = others.iter().find(|one| others.iter().any(|other| two(**one, *other))); \
+        Ok(first.map_or(Cause::None, |one| Cause::Step(*one)))\\n/"
+cause "third members' lines are left out too" \
+    "s/&without\\(&run.steps, left_out\\)/\\&without(\\&run.steps, left_out).into_iter() \
+        .filter(|other| [member, step.member()].contains(\\&other.member())).collect::<Vec<_>>()/"
+cause "what was refused stays refused" \
+    "s/&without\\(&run.steps, left_out\\)/\\&(0..run.steps.len()).filter(|at| *at != before \\&\\& run.seen.answers[*at] == 0) \
+        .map(|at| run.steps[at].clone()).collect::<Vec<_>>()/"
+cause "nothing is run again" \
+    "s/$again/{ let of = $operation; run.seen.operations.iter() \
+        .filter(|other| other.slot == of.slot \\&\\& other.submit > of.submit \\&\\& other.submit < of.commit) \
+        .all(|other| other.begin == left_out || other.submit == Some(left_out)) }/"
+cause "it is run again on a board of twelve" 's/accepted\(run.n/accepted(12/'
+verdict_of='matches!\(watch\(n, steps\).aborted\(member, ordinal\), Err\(Ground::Accepted\)\)'
+submitted='let seen = watch(n, steps); seen.named(member, ordinal).is_some_and(|of| !seen.submits.iter().any(|other|
+    other.slot == of.slot \&\& other.member != member'
+cause "accepted is whom nobody overtakes later either" "s/$verdict_of/$submitted \\&\\& Some(other.step) > of.submit))/"
+cause "accepted is whom nobody overtakes since its begin" \
+    "s/$verdict_of/$submitted \\&\\& other.step > of.begin \\&\\& Some(other.step) < of.commit))/"
+cause "accepted counts when it is told" \
+    "$told; s/$verdict_of/watch(n, steps).named(member, ordinal).is_some_and(|of| of.told \\&\\& !of.aborted)/" "asked.rs cause.rs"
+cause "accepted is the member's next operation" 's/(watch\(n, steps\).aborted\(member, ordinal)\)/$1 + 1)/'
+
+# What is printed of it.
+step_found='Cause::Step\(left_out\)\)'
+cause "the number after leaving out" "s/$step_found/Cause::Step(left_out - 1))/"
+cause "the first line is step 1" "s/$step_found/Cause::Step(left_out + 1))/"
+cause "the number among the others' steps" \
+    "s/$step_found/Cause::Step(run.steps[..=before].iter().filter(|other| other.member() != member).count() as u32))/"
+cause "the number among the steps answered 0" \
+    "s/$step_found/Cause::Step(run.seen.answers[..=before].iter().filter(|answer| **answer == 0).count() as u32))/"
+cause "steps kept in 7 bits" "s/$step_found/Cause::Step(left_out % 128))/"
+cause "the member before the step" 's/"\{\}", step/"2 {}", step/'
+for printed in None NONE 0 - 31; do
+    cause "$printed is printed for none" "s/\"none\"/\"$printed\"/"
+done
+cause "none where several steps would do" \
+    "s/return Ok\\($step_found/let doing = $others.filter(|at| accepted(run.n, \\&without(\\&run.steps, *at), member, ordinal)); \
+        return Ok(if doing.count() > 1 { Cause::None } else { Cause::Step(left_out) })/"
+
+# Which operations are answered.
+is_asked='run.seen.aborted\(member, ordinal\)\?;'
+cause "an accepted operation is answered" "s/$is_asked/run.seen.named(member, ordinal).ok_or(Ground::NoOperation)?;/"
+for ground in Accepted NoVerdict NoOperation; do
+    cause "none for $ground" \
+        "s/($is_asked)/if let Err(Ground::$ground) = run.seen.aborted(member, ordinal) { return Ok(Cause::None); } \$1/"
+done
 
 # Which operation, and which step.
 mine='if operation.member == member \{'
-overtaker "refused begins have ordinals" \
-    's/(\n    for \(before, step\).*?\n.*?\n.*?\n        \})/$1 else if !matches!(step, Step::Deliver { .. } | Step::Crash { .. }) {\n seen.note_begin(before as u32 + 1, step.member(), 1); let refused = seen.operations.pop().unwrap(); seen.operations.insert(0, refused); }/'
-overtaker "ordinals from 0" 's/before == ordinal/before == ordinal.wrapping_add(1)/'
-overtaker "ordinals over all members" "s/$mine\\n *before \\+= 1;\\n *if before == ordinal/{ before += 1; if before == ordinal \\&\\& operation.member == member/"
-overtaker "ordinals on the own slot alone" "s/$mine/if operation.member == member \\&\\& operation.slot == member {/"
-overtaker "ordinals of the aborted alone" "s/$mine/if operation.member == member \\&\\& operation.aborted {/"
-overtaker "ordinals kept in a byte" 's/before == ordinal/before as u8 as u32 == ordinal/'
-overtaker "an ordinal above 255 is 255" 's/before == ordinal/before == ordinal.min(255)/'
+asked "refused begins have ordinals" \
+    's/(if answer == 0 \{\n.*?\n        \})/$1 else if !matches!(step, Step::Deliver { .. } | Step::Crash { .. }) {
+        seen.note_begin(before as u32 + 1, step.member(), 1);
+        let refused = seen.operations.pop().unwrap(); seen.operations.insert(0, refused); }/'
+asked "ordinals from 0" 's/before == ordinal/before == ordinal.wrapping_add(1)/'
+asked "ordinals over all members" \
+    "s/$mine\\n *before \\+= 1;\\n *if before == ordinal/{ before += 1; if before == ordinal \\&\\& operation.member == member/"
+asked "ordinals on the own slot alone" "s/$mine/if operation.member == member \\&\\& operation.slot == member {/"
+asked "ordinals of the aborted alone" "s/$mine/if operation.member == member \\&\\& operation.aborted {/"
+overtaker "ordinals kept in a byte" 's/before == ordinal/before as u8 as u32 == ordinal/' asked.rs
+overtaker "an ordinal above 255 is 255" 's/before == ordinal/before == ordinal.min(255)/' asked.rs
 overtaker "refused steps have no numbers" \
-    's/(let mut seen = Seen::default\(\);)/$1 let mut made = 0;/; s/seen.note\(before as u32 \+ 1/made += 1; seen.note(made/'
-overtaker "the first line is step 1" 's/before as u32 \+ 1/before as u32 + 2/'
-overtaker "steps from 0" 's/before as u32 \+ 1/before as u32/'
-overtaker "steps kept in 12 bits" 's/submit.member, submit.step/submit.member, submit.step % 4096/'
-overtaker "the step before the member" 's/submit.member, submit.step/submit.step, submit.member/'
+    's/(let mut seen = Seen::default\(\);)/$1 let mut made = 0;/; s/seen.note\(before as u32 \+ 1/made += 1; seen.note(made/' asked.rs
+overtaker "the first line is step 1" 's/before as u32 \+ 1/before as u32 + 2/' asked.rs
+overtaker "steps from 0" 's/before as u32 \+ 1/before as u32/' asked.rs
+overtaker "steps kept in 12 bits" 's/self.member, self.step/self.member, self.step % 4096/'
+overtaker "the step before the member" 's/self.member, self.step/self.step, self.member/'
 overtaker "the operation's own member is printed" "s/$found/let mut first = (*first.unwrap()).clone(); first.member = member; Ok(first)/"
-overtaker "who is named without a line feed" 's/"\{\} \{\}\\n"/"{} {}"/'
-overtaker "a refusal without a line feed" 's/"\{\}\\n"/"{}"/'
-overtaker "a comma between" 's/"\{\} \{\}\\n"/"{}, {}\\n"/'
+asked "what is found without a line feed" 's/"\{\}\\n", found/"{}", found/'
+asked "a refusal without a line feed" 's/"\{\}\\n", ground/"{}", ground/'
+overtaker "a comma between" 's/"\{\} \{\}"/"{}, {}"/'
 
 # The refusals, and their order.
 bad='return Err\(Ground::LaterLine\);'
 sizes='(    if !n_is_good\(n\) \{.*?\n    \}\n)'
-overtaker "1 before a later line's 17" "s/(    let mut steps = Vec::new.*?\\n    \\}\\n)$sizes/\$2\$1/s"
-overtaker "31 where members are not 1 to 12" 's/Ground::Members => 1/Ground::Members => 31/'
+asked "1 before a later line's 17" "s/(    let mut steps = Vec::new.*?\\n    \\}\\n)$sizes/\$2\$1/s"
+asked "31 where members are not 1 to 12" 's/Ground::Members => 1/Ground::Members => 31/'
 for number in 1 31; do
-    overtaker "no line at all is $number" "s/Ground::NoLine \\| //; s/Ground::Members => 1/Ground::NoLine => $number, Ground::Members => 1/"
+    asked "no line at all is $number" "s/Ground::NoLine \\| //; s/Ground::Members => 1/Ground::NoLine => $number, Ground::Members => 1/"
 done
 named='let \(member, ordinal\) = read_arguments\(arguments\)\?;'
-overtaker "31 for member or ordinal 0 before all else" "s/($named)/\$1 if member == 0 || ordinal == 0 { return Err(Ground::NoOperation); }/"
-overtaker "31 for member 13 before all else" "s/($named)/\$1 if member > 12 { return Err(Ground::NoOperation); }/"
-overtaker "1 before the arguments' 17" "s/($named)/if matches!(run, Err(Ground::Members)) { return Err(Ground::Members); } \$1/"
-overtaker "31 for bad arguments" 's/Ground::Arguments \| //; s/Ground::NoOperation \|/Ground::NoOperation | Ground::Arguments |/'
-overtaker "4 for a member above n" \
-    's/(NoVerdict,\n\})/NoMember, $1/; s/(Ground::Members => 1,)/$1 Ground::NoMember => 4,/; s/(Ok\(run\) =>)/Ok(run) if member == 0 || member > run.n => Err(Ground::NoMember),\n        $1/'
-overtaker "nothing is read behind a bad line" "s/$bad/break;/"
-overtaker "bad lines are passed over" "s/$bad/continue;/"
-overtaker "bad lines are steps, as on the board" "s/$bad/steps.push(Step::Deliver { member: 0 }); continue;/"
-overtaker "a bad last line is let through" "s/($bad)/if next().is_none() { break; } \$1/"
-overtaker "empty lines are passed over" "s/($bad)/if line.is_empty() { continue; } \$1/"
-overtaker "an empty last line is let through" "s/($bad)/if line.is_empty() \\&\\& next().is_none() { break; } \$1/"
-overtaker "a second members line is let through" "s/($bad)/if matches!(parse(\\&line), Some(Line::Members(_))) { continue; } \$1/"
-overtaker "a carriage return is let through" 's/parse\(&line\) else/parse(line.strip_suffix(b"\\r").unwrap_or(\&line)) else/'
-overtaker "an empty first line is passed over" 's/(let first = )(next\(\).*?);/$1$2; let first = if first.is_empty() { $2 } else { first };/'
-overtaker "65,536 bytes are let through" 's/65_535/65_536/'
-overtaker "65,535 bytes are refused" 's/65_535/65_534/'
-overtaker "the last line feed is not counted" 's/script.len\(\) > MOST_BYTES/script.strip_suffix(b"\\n").unwrap_or(script).len() > MOST_BYTES/'
-overtaker "31 for a longer script" 's/Ground::TooLong \| //; s/Ground::NoOperation \|/Ground::NoOperation | Ground::TooLong |/'
-tool "of a longer script the first 65,535 bytes are run" overtaker_sim.rs 's/ as u64 \+ 1/ as u64/'
-tool "status 1 at a refusal" overtaker_sim.rs 's/    0\n\}/    answered.is_err() as i32\n}/'
-tool "a refusal is said on standard error too" overtaker_sim.rs 's/    0\n\}/    if answered.is_err() { eprintln!("refused"); }\n    0\n}/'
+asked "31 for member or ordinal 0 before all else" "s/($named)/\$1 if member == 0 || ordinal == 0 { return Err(Ground::NoOperation); }/"
+asked "31 for member 13 before all else" "s/($named)/\$1 if member > 12 { return Err(Ground::NoOperation); }/"
+asked "1 before the arguments' 17" "s/($named)/if matches!(run, Err(Ground::Members)) { return Err(Ground::Members); } \$1/"
+asked "31 for bad arguments" 's/Ground::Arguments \| //; s/Ground::NoOperation \|/Ground::NoOperation | Ground::Arguments |/'
+asked "4 for a member above n" \
+    's/(NoVerdict,\n\})/NoMember, $1/; s/(Ground::Members => 1,)/$1 Ground::NoMember => 4,/;
+        s/(Ok\(run\) =>)/Ok(run) if member == 0 || member > run.n => Err(Ground::NoMember),\n            $1/'
+asked "nothing is read behind a bad line" "s/$bad/break;/"
+asked "bad lines are passed over" "s/$bad/continue;/"
+asked "bad lines are steps, as on the board" "s/$bad/steps.push(Step::Deliver { member: 0 }); continue;/"
+last='std::ptr::eq(line, later.last().unwrap())'
+asked "a bad last line is let through" "s/($bad)/if $last { break; } \$1/"
+asked "empty lines are passed over" "s/($bad)/if line.is_empty() { continue; } \$1/"
+asked "an empty last line is let through" "s/($bad)/if line.is_empty() \\&\\& $last { break; } \$1/"
+asked "a second members line is let through" "s/($bad)/if matches!(parse(line), Some(Line::Members(_))) { continue; } \$1/"
+asked "a carriage return is let through" 's/parse\(line\) else/parse(line.strip_suffix(b"\\r").unwrap_or(line)) else/'
+asked "an empty first line is passed over" \
+    's/(let lines = lines_of\(script\);)/$1
+        let lines = if lines.first().is_some_and(|first| first.is_empty()) { \&lines[1..] } else { \&lines[..] };/'
+asked "65,536 bytes are let through" 's/65_535/65_536/'
+asked "65,535 bytes are refused" 's/65_535/65_534/'
+asked "the last line feed is not counted" 's/script.len\(\) > MOST_BYTES/script.strip_suffix(b"\\n").unwrap_or(script).len() > MOST_BYTES/'
+asked "31 for a longer script" 's/Ground::TooLong \| //; s/Ground::NoOperation \|/Ground::NoOperation | Ground::TooLong |/'
+both_tools "of a longer script the first 65,535 bytes are run" tool_main.rs 's/ as u64 \+ 1/ as u64/'
+both_tools "status 1 at a refusal" tool_main.rs 's/    0\n\}/    answered.is_err() as i32\n}/'
+both_tools "a refusal is said on standard error too" tool_main.rs \
+    's/    0\n\}/    if answered.is_err() { eprintln!("refused"); }\n    0\n}/'
+
+# The most steps, and where 35 stands.
+for most in 255 257 128 512 65_535; do
+    cause "at most $most steps" "s/most_steps: 256/most_steps: $most/"
+done
+for number in 1 17 31 34; do
+    cause "$number for too many steps" "s/TooManySteps => 35/TooManySteps => $number/" asked.rs
+done
+many='(    if later.len\(\) > most_steps \{\n.*?\n    \}\n)'
+first_line='(    let Some\(Line::Members\(n\)\).*?\n    \};\n)'
+later_lines='(    let mut steps = Vec::new.*?\n    \}\n)'
+too_long='(    if script.len\(\) > MOST_BYTES \{\n.*?\n    \}\n)'
+cause "a first line's 17 before 35" "s/$many$first_line/\$2\$1/s" asked.rs
+cause "a later line's 17 before 35" "s/$many$first_line$later_lines/\$2\$3\$1/s" asked.rs
+cause "1 before 35" "s/$many$first_line$later_lines$sizes/\$2 if !n_is_good(n) { return Err(Ground::Members); } \$1\$3\$4/s" asked.rs
+cause "17 and 1 before 35" "s/$many$first_line$later_lines$sizes/\$2\$3\$4\$1/s" asked.rs
+cause "35 before a longer script's 17" "s/$too_long(.*?)$many/\$2\$3\$1/s" asked.rs
+cause "35 before the arguments' 17" \
+    "s/($named)/if matches!(run, Err(Ground::TooManySteps)) { return Err(Ground::TooManySteps); } \$1/" asked.rs
+counted='later.len\(\) > most_steps'
+cause "the first line is counted" "s/$counted/lines.len() > most_steps/" asked.rs
+cause "as many steps as there may be are too many" "s/$counted/later.len() >= most_steps/" asked.rs
+cause "lines are counted by their line feeds" \
+    "s/$counted/script.iter().filter(|byte| **byte == b'\\\\n').count() > most_steps.saturating_add(1)/" asked.rs
+cause "line feeds are counted" "s/$counted/script.iter().filter(|byte| **byte == b'\\\\n').count() > most_steps/" asked.rs
+cause "what is behind the last line feed is a line" \
+    "s/$counted/script.split(|byte| *byte == b'\\\\n').count() > most_steps.saturating_add(1)/" asked.rs
+cause "empty lines are not counted" "s/$counted/later.iter().filter(|line| !line.is_empty()).count() > most_steps/" asked.rs
+cause "bad lines are not counted" "s/$counted/later.iter().filter(|line| parse(line).is_some()).count() > most_steps/" asked.rs
+cause "steps are counted in a byte" "s/$counted/later.len() % 256 > most_steps/" asked.rs
+cause "steps are counted in 9 bits" "s/$counted/later.len() % 512 > most_steps/" asked.rs
+cause "no 35 behind a first line of another form" \
+    "s/$counted/later.len() > most_steps \\&\\& matches!(parse(first), Some(Line::Members(_)))/" asked.rs
+cut='(let \(first, later\) = lines.split_first.*?;)'
+cause "of more steps the first 256 are run" "s/$cut/\$1 let later = \\&later[..later.len().min(most_steps)];/" asked.rs
+cause "of more steps the last 256 are run" "s/$cut/\$1 let later = \\&later[later.len().saturating_sub(most_steps)..];/" asked.rs
 
 # The arguments.
-overtaker "a third argument is passed over" 's/arguments.len\(\) != 2/arguments.len() < 2/'
-overtaker "an empty third argument is passed over" 's/arguments.len\(\) != 2/arguments.len() < 2 || arguments.len() > 2 \&\& !arguments[2].is_empty()/'
-overtaker "one argument asks for the first operation" \
+asked "a third argument is passed over" 's/arguments.len\(\) != 2/arguments.len() < 2/'
+asked "an empty third argument is passed over" \
+    's/arguments.len\(\) != 2/arguments.len() < 2 || arguments.len() > 2 \&\& !arguments[2].is_empty()/'
+asked "one argument asks for the first operation" \
     's/arguments.len\(\) != 2/!(1..=2).contains(\&arguments.len())/; s/number\(&arguments\[1\]\)/number(arguments.get(1).map_or(b"1", |argument| argument))/'
 for place in 0 1; do
     argument="number\\(&arguments\\[$place\\]\\)"
     given="\\&arguments[$place]"
-    overtaker "argument $place with leading zeros" "s/$argument/number(given(\\&arguments[$place]))/; s/(\\/\\/\\/ Member and ordinal)/fn given(all: \\&[u8]) -> \\&[u8] { match all { [b'0', rest @ ..] if !rest.is_empty() => given(rest), _ => all } }\\n\$1/"
+    asked "argument $place with leading zeros" "s/$argument/number(given(\\&arguments[$place]))/; \
+        s/(\\/\\/\\/ Member and ordinal)/fn given(all: \\&[u8]) -> \\&[u8] { \
+        match all { [b'0', rest @ ..] if !rest.is_empty() => given(rest), _ => all } }\\n\$1/"
     for sign in + -; do
-        overtaker "argument $place with a $sign" "s/$argument/number($given.strip_prefix(b\"$sign\").unwrap_or($given))/"
+        asked "argument $place with a $sign" "s/$argument/number($given.strip_prefix(b\"$sign\").unwrap_or($given))/"
     done
-    overtaker "argument $place is what its digits are" "s/$argument/number($given.iter().copied().filter(|byte| byte.is_ascii_digit()).collect::<Vec<u8>>().as_slice())/"
-    overtaker "argument $place without its line feed" "s/$argument/number($given.strip_suffix(b\"\\\\n\").unwrap_or($given))/"
-    overtaker "argument $place as far as it is text" "s/$argument/number($given.split(|byte| *byte >= 128).next().unwrap())/"
-    overtaker "argument $place empty is 1" "s/$argument/number(if arguments[$place].is_empty() { b\"1\" } else { $given })/"
+    asked "argument $place is what its digits are" \
+        "s/$argument/number($given.iter().copied().filter(|byte| byte.is_ascii_digit()).collect::<Vec<u8>>().as_slice())/"
+    asked "argument $place without its line feed" "s/$argument/number($given.strip_suffix(b\"\\\\n\").unwrap_or($given))/"
+    asked "argument $place as far as it is text" "s/$argument/number($given.split(|byte| *byte >= 128).next().unwrap())/"
+    asked "argument $place empty is 1" "s/$argument/number(if arguments[$place].is_empty() { b\"1\" } else { $given })/"
     large="std::str::from_utf8($given).ok().and_then(|text| text.parse::<u64>().ok()).filter(|number| *number > u32::MAX as u64)"
-    overtaker "argument $place wraps at 2^32" "s/$argument/number($given).or($large.map(|number| number as u32))/"
+    asked "argument $place wraps at 2^32" "s/$argument/number($given).or($large.map(|number| number as u32))/"
 done
 
 # Reading and writing.
-piped_tool "what one read gives is taken" 's/\(&\*input\).take\(.*?\).read_to_end\(&mut script\)\?;/script.resize(65_536, 0); let size = (\&*input).read(\&mut script)?; script.truncate(size);/'
-piped_tool "an input that cannot be read is empty" 's/let script = match read_input\(\) \{.*?\n    \};/let script = read_input().unwrap_or_default();/s'
-piped_tool "a closed input is empty" 's/match read_input\(\) \{/match read_input().or_else(|reason| if reason.raw_os_error() == Some(9) { Ok(Vec::new()) } else { Err(reason) }) {/'
-piped_tool "a failed write goes unsaid" 's/eprintln!\("standard output.*?;//'
+piped_tools "what one read gives is taken" \
+    's/\(&\*input\).take\(.*?\).read_to_end\(&mut script\)\?;/
+        script.resize(65_536, 0); let size = (\&*input).read(\&mut script)?; script.truncate(size);/'
+piped_tools "an input that cannot be read is empty" \
+    's/let script = match read_input\(\) \{.*?\n    \};/let script = read_input().unwrap_or_default();/s'
+piped_tools "a closed input is empty" \
+    's/match read_input\(\) \{/
+        match read_input().or_else(|reason| if reason.raw_os_error() == Some(9) { Ok(Vec::new()) } else { Err(reason) }) {/'
+piped_tools "a failed write goes unsaid" 's/eprintln!\("standard output.*?;//'
 rm -rf "$work" "$shared"
 echo "noticed $noticed, missed $missed"
 [ $missed -eq 0 ]

@@ -2,13 +2,14 @@
 // by hand. Each case is asked a second way too, in the book; then runs at
 // random are asked both ways.
 
+use crate::asked::{Ground, Run, Submit};
+use crate::asked_cases::{numbers, rounds, script, OVERTAKEN};
 use crate::board::COMMON;
-use crate::overtaker::{answer, printed, read_arguments, run, Ground};
-use crate::overtaker_cases::{bad_lists, list, numbers, operations_and_about, rounds, script, Arguments, OVERTAKEN};
+use crate::overtaker::OVERTAKER;
 use crate::reference::{Book, Call};
 use crate::rng::Rng;
-use crate::script::Step;
-use crate::script_cases::{deliver, filling, random_script, read, write};
+use crate::script_cases::{filling, Manner, USUAL};
+use crate::two_ways::{call_of, TwoWays};
 
 pub fn all(rng: &mut Rng) {
     crossing();
@@ -19,39 +20,28 @@ pub fn all(rng: &mut Rng) {
     ordinals();
     before_the_verdict();
     crashes();
-    no_such_operation();
     refused_steps();
     largest_board();
-    order_of_refusals();
-    lines_of_another_form();
-    first_lines_and_ends();
+    TOOL.refusals("2 4");
     bytes();
-    argument_lists();
     at_random(rng);
     println!("ok overtaken operations");
 }
 
 // ---------------------------------------------------------------- asking
 
-fn call_of(step: &Step) -> Call {
-    match *step {
-        Step::Write { member, value } => write(member, value),
-        Step::Read { member, slot } => read(member, slot),
-        Step::Deliver { member } => deliver(member),
-        Step::Crash { member } => Call::Crash { member },
-    }
-}
+const TOOL: TwoWays<Submit> = TwoWays { tool: OVERTAKER, again: by_book };
 
 /// The second way: the book is fed the steps and the one operation is followed
 /// in it. Of the others nothing is kept but the first submit that counts.
-fn by_book(n: u32, steps: &[Step], member: u32, ordinal: u32) -> Option<(u32, u32)> {
-    if member == 0 || member > n {
+fn by_book(run: &Run, member: u32, ordinal: u32) -> Option<Submit> {
+    if member == 0 || member > run.n {
         return None;
     }
-    let mut book = Book::new(n, COMMON.limit);
+    let mut book = Book::new(run.n, COMMON.limit);
     let mut begins = 0;
     let mut overtaker = None;
-    for (before, step) in steps.iter().enumerate() {
+    for (before, step) in run.steps.iter().enumerate() {
         let call = call_of(step);
         if book.call(&call).0 != 0 {
             continue;
@@ -67,7 +57,7 @@ fn by_book(n: u32, steps: &[Step], member: u32, ordinal: u32) -> Option<(u32, u3
                 let under_way = book.phase(member) == 2 || book.phase(member) == 3;
                 let slot_of = |m: u32| book.members[m as usize - 1].running.map(|operation| operation.slot);
                 if under_way && book.phase(by) == 2 && slot_of(by) == slot_of(member) {
-                    overtaker = overtaker.or(Some((by, before as u32 + 1)));
+                    overtaker = overtaker.or(slot_of(by).map(|slot| Submit { member: by, step: before as u32 + 1, slot }));
                 }
             }
             _ => {}
@@ -76,28 +66,8 @@ fn by_book(n: u32, steps: &[Step], member: u32, ordinal: u32) -> Option<(u32, u3
     None
 }
 
-/// What is printed, which both ways agree on where a board is run.
-fn ask(arguments: &Arguments, script: &[u8]) -> String {
-    let run = run(script);
-    let answered = answer(arguments, &run);
-    if let (Ok((member, ordinal)), Ok(run)) = (read_arguments(arguments), run) {
-        let found = answered.as_ref().ok().map(|submit| (submit.member, submit.step));
-        assert_eq!(found, by_book(run.n, &run.steps, member, ordinal), "{:?}", String::from_utf8_lossy(script));
-    }
-    String::from_utf8(printed(&answered)).unwrap()
-}
-
-/// For each member and ordinal, what is printed but the line feed.
 fn expect(lines: &str, expected: &[(u32, u32, &str)]) {
-    for (member, ordinal, out) in expected {
-        let found = ask(&numbers(*member, *ordinal), &script(lines));
-        assert_eq!(found, format!("{}\n", out), "{} {} in {}", member, ordinal, lines);
-    }
-}
-
-/// What is printed of member 1's first operation.
-fn first_of_one(script: &[u8]) -> String {
-    ask(&numbers(1, 1), script)
+    TOOL.expect(lines, expected);
 }
 
 // ---------------------------------------------------------------- who is named
@@ -174,7 +144,7 @@ fn ordinals() {
     expect(&lines, &[(1, 1, "2 6"), (1, 2, "2 19"), (1, 3, "31"), (2, 1, "1 14"), (2, 2, "31")]);
     // Of many.
     for (ordinal, out) in [(1, "2 4\n"), (10, "2 94\n"), (256, "2 2554\n"), (257, "2 2564\n"), (300, "2 2994\n"), (301, "31\n")] {
-        assert_eq!(ask(&numbers(1, ordinal), &rounds(300)), out);
+        assert_eq!(TOOL.ask(&numbers(1, ordinal), &rounds(300)), out);
     }
 }
 
@@ -211,17 +181,6 @@ fn crashes() {
     expect(lines, &[(1, 1, "31")]);
 }
 
-fn no_such_operation() {
-    let most = 4294967295;
-    expect(OVERTAKEN, &[(0, 1, "31"), (3, 1, "31"), (13, 1, "31"), (most, 1, "31"), (0, 0, "31"), (3, 0, "31")]);
-    expect(OVERTAKEN, &[(1, 0, "31"), (1, 2, "31"), (1, most, "31"), (2, 0, "31"), (2, 2, "31"), (most, most, "31")]);
-    // The board has no such members, so their begins were not answered 0.
-    expect("members 2, write 0 7, deliver 0, write 3 7, deliver 3", &[(0, 1, "31"), (3, 1, "31")]);
-    // Nobody begins, and nobody is there to overtake.
-    expect("members 2", &[(1, 1, "31")]);
-    expect("members 1, write 1 7, deliver 1, deliver 1, deliver 1, read 1 1, deliver 1", &[(1, 1, "31"), (1, 2, "31")]);
-}
-
 /// They have their numbers and change nothing: at 3, 5, 7 and 8 here.
 fn refused_steps() {
     let lines = "members 2, write 1 7, deliver 1, deliver 0, read 2 1, write 2 9, deliver 2, crash 3, read 2 3, deliver 1, deliver 1";
@@ -233,52 +192,7 @@ fn largest_board() {
     expect(lines, &[(12, 1, "11 4"), (11, 1, "31")]);
 }
 
-// ---------------------------------------------------------------- refusals
-
-/// 17 before 1, 17 before 31, 1 before 31.
-fn order_of_refusals() {
-    for members in ["0", "13", "4294967295"] {
-        let lines = OVERTAKEN.replace("members 2", &format!("members {}", members));
-        expect(&lines, &[(1, 1, "1"), (1, 2, "1"), (0, 0, "1"), (14, 1, "1")]);
-        assert_eq!(ask(&list(&[b"1"]), &script(&lines)), "17\n");
-        expect(&format!("{}, bid 1", lines), &[(1, 1, "17"), (1, 2, "17")]);
-        expect(&format!("members {}", members), &[(1, 1, "1")]);
-        assert_eq!(first_of_one(&[script(&lines), filling(70_000)].concat()), "17\n");
-    }
-    expect(&format!("{}, bid 1", OVERTAKEN), &[(1, 2, "17"), (0, 1, "17"), (3, 1, "17")]);
-    assert_eq!(ask(&list(&[b"1", b"2", b"3"]), &script(OVERTAKEN)), "17\n");
-}
-
-/// At every place, also behind the verdict; alone they are what the board answers 17.
-fn lines_of_another_form() {
-    let good: Vec<&str> = OVERTAKEN.split(", ").collect();
-    let bad = [
-        "", " ", "members 2", "members 13", "bid 2 7", "deliver 1\r", "\r", "deliver", "deliver 01", "deliver 1 ", " deliver 1",
-        "deliver\t1", "write 1", "write 1 4294967296", "read 1 2 3", "crash -1", "Deliver 1", "deliver 1\0",
-    ];
-    for line in bad {
-        for place in 1..=good.len() {
-            let mut lines = good.clone();
-            lines.insert(place, line);
-            expect(&lines.join(", "), &[(1, 1, "17")]);
-        }
-    }
-    // A number that is no member is a good form, and so is a slot that is none.
-    expect(&format!("{}, crash 4294967295, read 1 0, write 0 0", OVERTAKEN), &[(1, 1, "2 4")]);
-}
-
-fn first_lines_and_ends() {
-    for text in ["", "\n", "\nmembers 2\n", "members 02\n", "members 2\r\n", "members 2 \n", "members 4294967296", "members", "deliver 1\n"] {
-        assert_eq!(first_of_one(text.as_bytes()), "17\n", "{:?}", text);
-    }
-    for (text, out) in [("members 2", "31\n"), ("members 2\n", "31\n"), ("members 13", "1\n"), ("members 2\n\n", "17\n")] {
-        assert_eq!(first_of_one(text.as_bytes()), out, "{:?}", text);
-    }
-    // The last line may lack its line feed; here it is the verdict's.
-    let text = script(OVERTAKEN);
-    assert_eq!(first_of_one(&text[..text.len() - 1]), "2 4\n");
-    assert_eq!(first_of_one(&text[..text.len() - 2]), "17\n");
-}
+// ---------------------------------------------------------------- bytes
 
 /// The operation's lines and the first have 69 bytes. 65,466 bytes of filling
 /// are 6,545 lines of 10 and one of 16: 2's submit is then at 6,546 + 4.
@@ -287,48 +201,30 @@ fn bytes() {
     let behind = |bytes| [script(first), filling(bytes), script(steps)].concat();
     let before = |bytes| [script(OVERTAKEN), filling(bytes)].concat();
     assert_eq!((behind(65_466).len(), before(65_466).len()), (65_535, 65_535));
-    assert_eq!(first_of_one(&behind(65_466)), "2 6550\n");
-    assert_eq!(first_of_one(&before(65_466)), "2 4\n");
+    assert_eq!(TOOL.first_of_one(&behind(65_466)), "2 6550\n");
+    assert_eq!(TOOL.first_of_one(&before(65_466)), "2 4\n");
     for more in [65_467, 65_468, 70_000, 200_000] {
-        assert_eq!(first_of_one(&behind(more)), "17\n", "{} more", more);
-        assert_eq!(first_of_one(&before(more)), "17\n", "{} more", more);
+        assert_eq!(TOOL.first_of_one(&behind(more)), "17\n", "{} more", more);
+        assert_eq!(TOOL.first_of_one(&before(more)), "17\n", "{} more", more);
     }
     // Without the last line feed: one byte less, which lets the longer one through.
     for (bytes, out) in [(65_466, "2 6550\n"), (65_467, "2 6550\n"), (65_468, "17\n")] {
         let text = behind(bytes);
-        assert_eq!(first_of_one(&text[..text.len() - 1]), out);
-    }
-}
-
-// ---------------------------------------------------------------- arguments
-
-fn argument_lists() {
-    let text = script(OVERTAKEN);
-    for (member, ordinal, out) in [(1, 1, "2 4\n"), (4294967295, 1, "31\n"), (1, 4294967295, "31\n")] {
-        assert_eq!(ask(&numbers(member, ordinal), &text), out);
-    }
-    for bad in bad_lists() {
-        assert_eq!(ask(&bad, &text), "17\n", "{:?}", bad);
+        assert_eq!(TOOL.first_of_one(&text[..text.len() - 1]), out);
     }
 }
 
 // ---------------------------------------------------------------- at random
 
-/// Every operation of a run, and the ordinals and members about them, both ways.
 fn at_random(rng: &mut Rng) {
     let (mut named, mut accepted, mut no_verdict) = (0, 0, 0);
     for turn in 0..200 {
-        let script = random_script(rng, [1, 2, 3, 4, 12][turn % 5], 100, 2, [20, 1_000][turn % 2], u64::MAX);
-        let run = run(&script).expect("it has no bad line");
-        for (member, ordinal) in operations_and_about(run.n, &run.seen) {
-            let answered = run.seen.overtaker(member, ordinal);
-            let found = answered.as_ref().ok().map(|submit| (submit.member, submit.step));
-            let again = by_book(run.n, &run.steps, member, ordinal);
-            assert_eq!(found, again, "{} {} in {}", member, ordinal, String::from_utf8_lossy(&script));
+        let manner = Manner { crash_once_in: [20, 1_000][turn % 2], ..USUAL };
+        TOOL.ask_all(rng, [1, 2, 3, 4, 12][turn % 5], &manner, |_, _, _, answered| {
             named += answered.is_ok() as u32;
             accepted += (answered == Err(Ground::Accepted)) as u32;
             no_verdict += (answered == Err(Ground::NoVerdict)) as u32;
-        }
+        });
     }
     // About half of what each of forty seeds gave.
     assert!(named > 450 && accepted > 800 && no_verdict > 220, "named {}, accepted {}, without a verdict {}", named, accepted, no_verdict);

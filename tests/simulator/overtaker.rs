@@ -1,116 +1,20 @@
-// Who overtook an operation (document 02, request (e)): a script is run on the
-// board, what happens is written down in plain lists, and the answer is looked
-// for in them.
+// Who overtook an operation (document 02, request (e)): looked for in what
+// happened in a run.
 
-use crate::board::{n_is_good, new_table, phase_of, ABORTED_SENT, ACCEPTED_SENT, REPLY_SENT};
-use crate::script::{next_line, number, parse, Line, Step};
+use crate::asked::{Ground, Operation, Seen, Submit, Tool};
+use std::fmt::{Display, Formatter, Result as Written};
 
-pub const MOST_BYTES: usize = 65_535;
+/// It takes as many steps as its bytes have room for.
+pub const OVERTAKER: Tool<Submit> =
+    Tool { most_steps: usize::MAX, find: |run, member, ordinal| run.seen.overtaker(member, ordinal) };
 
-/// Why nobody is named, in the order of the checks.
-#[derive(Clone, Copy, Debug, PartialEq, Eq)]
-pub enum Ground {
-    Arguments,
-    TooLong,
-    NoLine,
-    FirstLine,
-    LaterLine,
-    Members,
-    NoOperation,
-    Accepted,
-    NoVerdict,
-}
-
-impl Ground {
-    pub fn number(self) -> u32 {
-        match self {
-            Ground::Arguments | Ground::TooLong | Ground::NoLine | Ground::FirstLine | Ground::LaterLine => 17,
-            Ground::Members => 1,
-            Ground::NoOperation | Ground::Accepted | Ground::NoVerdict => 31,
-        }
+impl Display for Submit {
+    fn fmt(&self, out: &mut Formatter) -> Written {
+        write!(out, "{} {}", self.member, self.step)
     }
-}
-
-/// A begin that was answered 0, and the steps at which the host took its two messages.
-#[derive(Clone, Debug)]
-pub struct Operation {
-    pub member: u32,
-    pub slot: u32,
-    pub begin: u32,
-    pub submit: Option<u32>,
-    pub commit: Option<u32>,
-    pub aborted: bool, // by the commit's verdict
-}
-
-/// The host took a submit.
-#[derive(Clone, Debug, PartialEq, Eq)]
-pub struct Submit {
-    pub step: u32,
-    pub member: u32,
-    pub slot: u32,
-}
-
-/// What happened in a run, in its order.
-#[derive(Clone, Debug, Default)]
-pub struct Seen {
-    pub operations: Vec<Operation>,
-    pub submits: Vec<Submit>,
-}
-
-/// Runs the steps, numbered from 1, on a board of n.
-pub fn watch(n: u32, steps: &[Step]) -> Seen {
-    let mut table = new_table(n);
-    let mut seen = Seen::default();
-    for (before, step) in steps.iter().enumerate() {
-        if step.make(&mut table).number == 0 {
-            seen.note(before as u32 + 1, step, &table);
-        }
-    }
-    seen
 }
 
 impl Seen {
-    /// A step that was answered 0, and the table after it.
-    fn note(&mut self, at: u32, step: &Step, table: &[u32]) {
-        match *step {
-            Step::Write { member, .. } => self.note_begin(at, member, member),
-            Step::Read { member, slot } => self.note_begin(at, member, slot),
-            Step::Deliver { member } => self.note_deliver(at, member, phase_of(table, member)),
-            Step::Crash { .. } => {}
-        }
-    }
-
-    fn note_begin(&mut self, at: u32, member: u32, slot: u32) {
-        self.operations.push(Operation { member, slot, begin: at, submit: None, commit: None, aborted: false });
-    }
-
-    /// A deliver belongs to its member's last operation. What it was, the phase after it tells.
-    fn note_deliver(&mut self, at: u32, member: u32, phase: u32) {
-        let operation = self.operations.iter_mut().rev().find(|operation| operation.member == member);
-        let operation = operation.expect("nothing is delivered before a begin");
-        if phase == REPLY_SENT {
-            operation.submit = Some(at);
-            self.submits.push(Submit { step: at, member, slot: operation.slot });
-        } else if phase == ACCEPTED_SENT || phase == ABORTED_SENT {
-            operation.commit = Some(at);
-            operation.aborted = phase == ABORTED_SENT;
-        }
-    }
-
-    /// The operation of this ordinal, from 1, among the member's.
-    pub fn named(&self, member: u32, ordinal: u32) -> Option<&Operation> {
-        let mut before = 0;
-        for operation in &self.operations {
-            if operation.member == member {
-                before += 1;
-                if before == ordinal {
-                    return Some(operation);
-                }
-            }
-        }
-        None
-    }
-
     /// All submits on the operation's slot between its own and its commit.
     pub fn between(&self, operation: &Operation) -> Vec<&Submit> {
         let (Some(from), Some(to)) = (operation.submit, operation.commit) else {
@@ -121,79 +25,9 @@ impl Seen {
     }
 
     pub fn overtaker(&self, member: u32, ordinal: u32) -> Result<Submit, Ground> {
-        let operation = self.named(member, ordinal).ok_or(Ground::NoOperation)?;
-        if operation.commit.is_none() {
-            return Err(Ground::NoVerdict);
-        }
-        if !operation.aborted {
-            return Err(Ground::Accepted);
-        }
+        let operation = self.aborted(member, ordinal)?;
         let between = self.between(operation);
         let first = between.iter().min_by_key(|submit| submit.step);
         Ok((*first.expect("nobody is aborted who was not overtaken")).clone())
-    }
-}
-
-/// Member and ordinal, as a script writes numbers.
-pub fn read_arguments(arguments: &[Vec<u8>]) -> Result<(u32, u32), Ground> {
-    if arguments.len() != 2 {
-        return Err(Ground::Arguments);
-    }
-    let member = number(&arguments[0]).ok_or(Ground::Arguments)?;
-    let ordinal = number(&arguments[1]).ok_or(Ground::Arguments)?;
-    Ok((member, ordinal))
-}
-
-/// The number of members and the steps.
-pub fn read_script(script: &[u8]) -> Result<(u32, Vec<Step>), Ground> {
-    if script.len() > MOST_BYTES {
-        return Err(Ground::TooLong);
-    }
-    let mut rest = script;
-    let mut next = || next_line(&mut rest).expect("what is in memory can be read");
-    let first = next().ok_or(Ground::NoLine)?;
-    let Some(Line::Members(n)) = parse(&first) else {
-        return Err(Ground::FirstLine);
-    };
-    let mut steps = Vec::new();
-    while let Some(line) = next() {
-        let Some(Line::Step(step)) = parse(&line) else {
-            return Err(Ground::LaterLine);
-        };
-        steps.push(step);
-    }
-    if !n_is_good(n) {
-        return Err(Ground::Members);
-    }
-    Ok((n, steps))
-}
-
-/// A script that is run, and what happened in it.
-pub struct Run {
-    pub n: u32,
-    pub steps: Vec<Step>,
-    pub seen: Seen,
-}
-
-pub fn run(script: &[u8]) -> Result<Run, Ground> {
-    let (n, steps) = read_script(script)?;
-    let seen = watch(n, &steps);
-    Ok(Run { n, steps, seen })
-}
-
-/// What the tool says of its arguments, the program's name left out, and its input's run.
-pub fn answer(arguments: &[Vec<u8>], run: &Result<Run, Ground>) -> Result<Submit, Ground> {
-    let (member, ordinal) = read_arguments(arguments)?;
-    match run {
-        Ok(run) => run.seen.overtaker(member, ordinal),
-        Err(ground) => Err(*ground),
-    }
-}
-
-/// How it prints that.
-pub fn printed(answer: &Result<Submit, Ground>) -> Vec<u8> {
-    match answer {
-        Ok(submit) => format!("{} {}\n", submit.member, submit.step).into_bytes(),
-        Err(ground) => format!("{}\n", ground.number()).into_bytes(),
     }
 }

@@ -1,215 +1,17 @@
-// What is asked of the tool that names who overtook an operation: scripts, and
-// for each the argument lists to ask with.
+// What is asked of the tool that names who overtook an operation.
 
-use crate::board::n_is_good;
-use crate::fixed_scripts::fixed_scripts;
-use crate::overtaker::{watch, Seen, MOST_BYTES};
+use crate::asked::MOST_BYTES;
+use crate::asked_cases::{asked, board_scripts, numbers, random_runs, rounds, small_cases, Asked};
 use crate::rng::Rng;
-use crate::script::{parse, Line, Step};
-use crate::script_cases::{any_script, filling, random_script, NUMBERS};
-use std::collections::BTreeSet;
+use crate::script_cases::{filling, random_script, Manner, USUAL};
 
-pub type Arguments = Vec<Vec<u8>>;
-
-pub struct Asked {
-    pub name: String,
-    pub script: Vec<u8>,
-    pub lists: Vec<Arguments>,
-}
-
-pub fn cases(rng: &mut Rng, random_runs: u32) -> Vec<Asked> {
-    let mut cases = vec![argument_lists()];
-    cases.extend(refused_scripts());
-    cases.extend(bad_lines());
-    cases.extend(crashes(rng));
-    cases.extend(sizes());
+pub fn cases(rng: &mut Rng, runs: u32) -> Vec<Asked> {
+    let mut cases = small_cases(rng);
     cases.push(many_operations());
     cases.extend(longest_runs(rng));
-    for (name, script) in fixed_scripts() {
-        cases.push(asked(rng, &name, script, 2));
-    }
-    for run in 0..random_runs {
-        cases.push(random_run(rng, run % 12 + 1));
-    }
-    for _ in 0..random_runs / 8 {
-        let (n, script) = any_script(rng);
-        cases.push(asked(rng, &format!("any_{}", n), script, 2));
-    }
+    cases.extend(board_scripts(rng));
+    cases.extend(random_runs(rng, runs, manner));
     cases
-}
-
-// ---------------------------------------------------------------- lists
-
-pub fn list(pieces: &[&[u8]]) -> Arguments {
-    pieces.iter().map(|piece| piece.to_vec()).collect()
-}
-
-pub fn numbers(member: u32, ordinal: u32) -> Arguments {
-    vec![member.to_string().into_bytes(), ordinal.to_string().into_bytes()]
-}
-
-/// Lists that are not two numbers.
-pub fn bad_lists() -> Vec<Arguments> {
-    let pieces: [&[u8]; 16] = [
-        b"", b"01", b"00", b"+1", b"-1", b"1 ", b" 1", b"1\n", b"1\r", b"1 1", b"4294967296", b"18446744073709551617",
-        b"1.0", b"x", b"\xff", b"1\xff",
-    ];
-    let other_lengths: [&[&[u8]]; 6] = [&[], &[b"1"], &[b"1 1"], &[b"1", b"1", b"1"], &[b"1", b"1", b""], &[b"", b"1", b"1"]];
-    let mut lists: Vec<Arguments> = other_lengths.iter().map(|pieces| list(pieces)).collect();
-    for piece in pieces {
-        lists.extend([list(&[piece, b"1"]), list(&[b"1", piece]), list(&[piece, piece])]);
-    }
-    lists
-}
-
-/// The board and the steps of a script, lines of another form passed over: what
-/// they turn away would be answered.
-pub fn passing_over_bad_lines(script: &[u8]) -> Option<(u32, Vec<Step>)> {
-    let (mut members, mut steps) = (None, Vec::new());
-    for line in script.split(|byte| *byte == b'\n').filter_map(parse) {
-        match line {
-            Line::Members(n) => members = members.or(Some(n)),
-            Line::Step(step) => steps.push(step),
-        }
-    }
-    members.filter(|n| n_is_good(*n)).map(|n| (n, steps))
-}
-
-/// Every operation, and the members and ordinals about them.
-pub fn operations_and_about(n: u32, seen: &Seen) -> Vec<(u32, u32)> {
-    let begins = |member: u32| seen.operations.iter().filter(|operation| operation.member == member).count() as u32;
-    (0..=n + 1).flat_map(|member| (0..=begins(member) + 1).map(move |ordinal| (member, ordinal))).collect()
-}
-
-/// So many of them all, and as many of the aborted ones.
-fn some(rng: &mut Rng, script: &[u8], most: usize) -> Vec<Arguments> {
-    let Some((n, steps)) = passing_over_bad_lines(script) else {
-        return vec![numbers(1, 1), numbers(14, 0)];
-    };
-    let seen = watch(n, &steps);
-    let all = operations_and_about(n, &seen);
-    let aborted = all.iter().copied().filter(|(member, ordinal)| seen.overtaker(*member, *ordinal).is_ok()).collect();
-    let mut picked = BTreeSet::new();
-    for mut left in [all, aborted] {
-        for _ in 0..most.min(left.len()) {
-            picked.insert(left.swap_remove(rng.below(left.len() as u64) as usize));
-        }
-    }
-    picked.into_iter().map(|(member, ordinal)| numbers(member, ordinal)).collect()
-}
-
-fn asked(rng: &mut Rng, name: &str, script: Vec<u8>, most: usize) -> Asked {
-    Asked { name: name.to_string(), lists: some(rng, &script, most), script }
-}
-
-// ---------------------------------------------------------------- fixed cases
-
-/// Steps 1 to 6. The host takes 1's submit at 2, that of 2 at 4 and 1's commit
-/// at 6, which is aborted: `2 4`.
-pub const OVERTAKEN: &str = "members 2, write 1 7, deliver 1, read 2 1, deliver 2, deliver 1, deliver 1";
-
-/// Three at slot 1, with begins and a deliver that are refused and an operation
-/// on another slot. 3's first is overtaken twice, 1's first and 2's second once.
-const CLASH: &str = "members 3, read 1 4, read 3 1, write 1 7, deliver 3, deliver 2, deliver 1, write 1 9, \
-    read 2 3, deliver 2, deliver 2, deliver 2, deliver 2, read 2 1, deliver 2, deliver 3, deliver 3, deliver 1, deliver 1, \
-    deliver 3, read 3 1, deliver 3, deliver 1, write 1 8, deliver 2, deliver 2, deliver 3, deliver 3";
-
-/// Lines as bytes, each with its line feed.
-pub fn script(lines: &str) -> Vec<u8> {
-    (lines.replace(", ", "\n") + "\n").into_bytes()
-}
-
-/// The lines with another before the line of this place.
-fn with_line(lines: &str, place: usize, line: &str) -> Vec<u8> {
-    let mut lines: Vec<&str> = lines.split(", ").collect();
-    lines.insert(place, line);
-    script(&lines.join(", "))
-}
-
-fn argument_lists() -> Asked {
-    let mut lists = bad_lists();
-    for number in NUMBERS {
-        lists.extend([list(&[number.as_bytes(), b"1"]), list(&[b"1", number.as_bytes()])]);
-    }
-    for byte in 1..=255 {
-        lists.push(list(&[b"1", &[b'1', byte]]));
-    }
-    for length in [30, 5_000, 100_000] {
-        lists.push(list(&[&vec![b'1'; length], b"1"]));
-    }
-    lists.push(vec![b"1".to_vec(); 300]);
-    Asked { name: "arguments".to_string(), script: script(OVERTAKEN), lists }
-}
-
-/// On two grounds at once: which of them is printed?
-fn refused_scripts() -> Vec<Asked> {
-    let behind = |line: &str| OVERTAKEN.replace("members 2", line);
-    let mut scripts = vec![Vec::new(), script("bid 1"), script(&behind("members 02"))];
-    for members in ["0", "13", "4294967295", "4294967296"] {
-        let lines = behind(&format!("members {}", members));
-        scripts.extend([script(&lines), script(&format!("{}, bid 1", lines)), script(&format!("{}, {}", lines, OVERTAKEN))]);
-        scripts.push([script(&lines), filling(70_000)].concat());
-    }
-    scripts.push(script(&format!("{}, bid 1", OVERTAKEN)));
-    scripts.push([script(OVERTAKEN), filling(70_000)].concat());
-    let good = [numbers(1, 1), numbers(1, 2), numbers(0, 1), numbers(3, 1), numbers(14, 1)];
-    let lists = [&good[..], &bad_lists()[..8]].concat();
-    scripts.into_iter().map(|script| Asked { name: "refused".to_string(), script, lists: lists.clone() }).collect()
-}
-
-/// At every place, also before the first line and behind the last verdict.
-fn bad_lines() -> Vec<Asked> {
-    let mut cases = Vec::new();
-    for line in ["", " ", "members 3", "members 13", "bid 1", "deliver 1\r", "deliver 01", "write 1"] {
-        for place in 0..=CLASH.split(", ").count() {
-            let script = with_line(CLASH, place, line);
-            cases.push(Asked { name: "bad_line".to_string(), script, lists: vec![numbers(1, 1)] });
-        }
-    }
-    cases
-}
-
-/// No crash, and all is asked about; then a crash of each member, and of one that
-/// is not there, at every place.
-fn crashes(rng: &mut Rng) -> Vec<Asked> {
-    let mut cases = vec![asked(rng, "no_crash", script(CLASH), usize::MAX)];
-    for member in 1..=4 {
-        for place in 1..=CLASH.split(", ").count() {
-            let script = with_line(CLASH, place, &format!("crash {}", member));
-            cases.push(asked(rng, &format!("crash_of_{}", member), script, 3));
-        }
-    }
-    cases
-}
-
-/// As long as a script may be, a byte about it and longer; the operation at its
-/// start or its end, the last line with its line feed, without and of another form.
-fn sizes() -> Vec<Asked> {
-    let mut cases = Vec::new();
-    let (_, steps) = OVERTAKEN.split_once(", ").unwrap();
-    let steps = script(steps);
-    for first in ["members 2", "members 13"] {
-        let first = script(first);
-        for bytes in [65_534, 65_535, 65_536, 65_537, 131_072, 200_000] {
-            let filling = filling(bytes - first.len() - steps.len());
-            for script in [[&first[..], &filling, &steps].concat(), [&first[..], &steps, &filling].concat()] {
-                let bare = script[..bytes - 1].to_vec();
-                let bad = [&script[..bytes - 1], b"x"].concat();
-                for script in [script, bare, bad] {
-                    let name = format!("size_{}", script.len());
-                    cases.push(Asked { name, script, lists: vec![numbers(1, 1), numbers(1, 2), list(&[b"1"])] });
-                }
-            }
-        }
-    }
-    cases
-}
-
-/// Two at one slot, so many times. Of each ten steps 2's submit is the fourth,
-/// and 1's operation is aborted.
-pub fn rounds(times: usize) -> Vec<u8> {
-    let round = script("write 1 7, deliver 1, read 2 1, deliver 2, deliver 1, deliver 1, deliver 1, deliver 2, deliver 2, deliver 2");
-    [script("members 2"), round.repeat(times)].concat()
 }
 
 /// As many as a script has room for.
@@ -221,14 +23,12 @@ fn many_operations() -> Asked {
     Asked { name: "many_operations".to_string(), script: rounds(times), lists }
 }
 
-// ---------------------------------------------------------------- at random
-
 /// Busy to the end, and filled up to the most bytes that a script may have.
 fn longest_runs(rng: &mut Rng) -> Vec<Asked> {
     let mut cases = Vec::new();
     for n in [2, 3, 6, 11, 12] {
-        let crash = *rng.pick(&[3_000, 1_000_000]);
-        let mut script = random_script(rng, n, 8_000, 2, crash, u64::MAX);
+        let manner = Manner { steps: 8_000, crash_once_in: *rng.pick(&[3_000, 1_000_000]), ..USUAL };
+        let mut script = random_script(rng, n, &manner);
         script.truncate(MOST_BYTES - 40);
         script.truncate(script.iter().rposition(|byte| *byte == b'\n').unwrap() + 1);
         script.extend(filling(MOST_BYTES - script.len()));
@@ -237,21 +37,13 @@ fn longest_runs(rng: &mut Rng) -> Vec<Asked> {
     cases
 }
 
-/// Many clashes on few slots, and in a few runs bad lines or bad arguments too.
-/// Of some on small boards all is asked about.
-fn random_run(rng: &mut Rng, n: u32) -> Asked {
-    let steps = *rng.pick(&[12, 40, 120, 400]);
-    let slots = *rng.pick(&[1, 1, 2, 12]);
-    let crash = *rng.pick(&[12, 60, 1_000]);
-    let bad = if rng.once_in(8) { 40 } else { u64::MAX };
-    let mut script = random_script(rng, n, steps, slots, crash, bad);
-    if rng.once_in(3) {
-        script.pop();
+/// Many clashes on few slots, and in a few runs bad lines.
+fn manner(rng: &mut Rng) -> Manner {
+    Manner {
+        steps: *rng.pick(&[12, 40, 120, 400]),
+        slots: *rng.pick(&[1, 1, 2, 12]),
+        crash_once_in: *rng.pick(&[12, 60, 1_000]),
+        bad_once_in: if rng.once_in(8) { 40 } else { u64::MAX },
+        ..USUAL
     }
-    let most = if n <= 4 && rng.once_in(4) { usize::MAX } else { 3 };
-    let mut case = asked(rng, &format!("random_{}", n), script, most);
-    if rng.once_in(10) {
-        case.lists.push(rng.pick(&bad_lists()).clone());
-    }
-    case
 }

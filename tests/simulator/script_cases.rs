@@ -157,31 +157,40 @@ pub fn filling(bytes: usize) -> Vec<u8> {
     format!("{}write 0 {}\n", lines, "1".repeat(last - "write 0 \n".len())).into_bytes()
 }
 
+/// How a run at random goes.
+pub struct Manner {
+    pub steps: u32,
+    pub busy: u32, // so many take part, the highest members
+    pub slots: u32, // operations go to so many slots, from the lowest of these members' on
+    pub crash_once_in: u64,
+    pub bad_once_in: u64,
+    pub astray_once_in: u64, // out of turn or out of range
+}
+
+/// Clashes, and few crashes; every line is a good one.
+pub const USUAL: Manner =
+    Manner { steps: 100, busy: u32::MAX, slots: 2, crash_once_in: 1_000, bad_once_in: u64::MAX, astray_once_in: 30 };
+
 /// A run that the book follows, so that it goes forward; bad lines between.
 /// A bad line may by chance be a good one; the book is then a little behind,
 /// which does no harm.
-pub fn random_script(rng: &mut Rng, n: u32, steps: u32, slots: u32, crash_once_in: u64, bad_once_in: u64) -> Vec<u8> {
+pub fn random_script(rng: &mut Rng, n: u32, manner: &Manner) -> Vec<u8> {
     let mut text = format!("members {}\n", n).into_bytes();
     let mut book = Book::new(n, u32::MAX);
-    for _ in 0..steps {
-        if rng.once_in(bad_once_in) {
+    let lowest = n - manner.busy.min(n) + 1;
+    for _ in 0..manner.steps {
+        if rng.once_in(manner.bad_once_in) {
             text.extend(bad_line(rng));
             text.push(b'\n');
             continue;
         }
-        let member = rng.between(1, n);
-        let call = if rng.once_in(crash_once_in) {
+        let member = rng.between(lowest, n);
+        let call = if rng.once_in(manner.crash_once_in) {
             Call::Crash { member }
-        } else if rng.once_in(30) {
-            // Out of turn or out of range.
-            let (other, slot) = (rng.between(0, n + 1), rng.between(0, n + 1));
-            if rng.once_in(2) {
-                deliver(other)
-            } else {
-                any_begin(rng, other, slot)
-            }
+        } else if rng.once_in(manner.astray_once_in) {
+            astray(rng, n)
         } else if book.phase(member) == 0 {
-            let slot = rng.between(1, slots.min(n));
+            let slot = rng.between(lowest, (lowest + manner.slots - 1).min(n));
             any_begin(rng, member, slot)
         } else {
             deliver(member)
@@ -192,16 +201,29 @@ pub fn random_script(rng: &mut Rng, n: u32, steps: u32, slots: u32, crash_once_i
     text
 }
 
+/// Out of turn or out of range.
+fn astray(rng: &mut Rng, n: u32) -> Call {
+    let (other, slot) = (rng.between(0, n + 1), rng.between(0, n + 1));
+    if rng.once_in(2) {
+        deliver(other)
+    } else {
+        any_begin(rng, other, slot)
+    }
+}
+
 /// A run of any size, on n members or on a number that no board has; most
 /// of them with bad lines; some lack their last line feed, some are cut anywhere.
 pub fn any_script(rng: &mut Rng) -> (u32, Vec<u8>) {
     let n = if rng.once_in(15) { *rng.pick(&[0, 13]) } else { rng.between(1, 12) };
-    let steps = *rng.pick(&[5, 40, 200, 200, 1000, 4000]);
-    let slots = *rng.pick(&[1, 2, 12, 12]);
-    let crash = *rng.pick(&[40, 300, 1_000_000]);
-    let bad = *rng.pick(&[3, 20, 1_000_000]);
+    let manner = Manner {
+        steps: *rng.pick(&[5, 40, 200, 200, 1000, 4000]),
+        slots: *rng.pick(&[1, 2, 12, 12]),
+        crash_once_in: *rng.pick(&[40, 300, 1_000_000]),
+        bad_once_in: *rng.pick(&[3, 20, 1_000_000]),
+        ..USUAL
+    };
     let drive = n.max(1);
-    let mut text = random_script(rng, drive, steps, slots, crash, bad);
+    let mut text = random_script(rng, drive, &manner);
     if n != drive {
         let rest = text.iter().position(|b| *b == b'\n').unwrap();
         text.splice(..rest, format!("members {}", n).into_bytes());

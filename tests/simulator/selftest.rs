@@ -2,25 +2,31 @@
 // Usage: selftest [SEED] [RUNS PER N]
 #![allow(dead_code)]
 
+mod asked;
+mod asked_cases;
 mod auction;
 mod board;
 mod c_sim;
 mod calls;
 mod calls_sim;
+mod cause;
+mod cause_cases;
+mod caused;
 mod fixed_scripts;
 mod flat;
 mod message_cases;
 mod messages;
 mod overtaken;
 mod overtaker;
-mod overtaker_cases;
 mod own_reads;
 mod random;
 mod reference;
+mod refusals;
 mod replies;
 mod rng;
 mod script;
 mod script_cases;
+mod two_ways;
 
 use board::*;
 use messages::Message;
@@ -53,6 +59,7 @@ fn main() {
     own_reads::all();
     auction::all();
     overtaken::all(&mut Rng::new(seed));
+    caused::all(&mut Rng::new(seed));
     message_grounds();
     message_round_trips(&mut Rng::new(seed));
     random_runs(seed, runs);

@@ -1,11 +1,18 @@
-// Programs that name who overtook an operation, beside the simulator.
-// Usage: compare_overtakers FOLDER SEED RANDOM_RUNS PROGRAM..
-// Writes the scripts into the folder and runs each program on every case, with
-// the script's file as its input. Ends with 1 at the first output that differs,
-// and where something that can occur never came up.
+// Programs that are asked about an operation, beside the simulator.
+// Usage: compare_tools TOOL FOLDER SEED RANDOM_RUNS PROGRAM..
+// The tool is overtaker or cause. Writes the scripts into the folder and runs
+// each program on every case, with the script's file as its input. Ends with 1
+// at the first output that differs, and where something that can occur never
+// came up.
 #![allow(dead_code)]
 
+mod asked;
+mod asked_cases;
+mod asked_grounds;
 mod board;
+mod cause;
+mod cause_cases;
+mod cause_grounds;
 mod fixed_scripts;
 mod folder;
 mod grounds;
@@ -17,13 +24,14 @@ mod rng;
 mod script;
 mod script_cases;
 
+use asked::printed;
+use asked_cases::Arguments;
+use asked_grounds::{count, missing, Case, Tested};
 use folder::Folder;
 use grounds::Grounds;
-use overtaker::{answer, printed, run};
-use overtaker_cases::{cases, Arguments};
-use overtaker_grounds::Case;
 use rng::Rng;
 use std::ffi::OsStr;
+use std::fmt::Display;
 use std::fs::File;
 use std::os::unix::ffi::OsStrExt;
 use std::path::Path;
@@ -62,27 +70,36 @@ fn compare(programs: &[String], arguments: &Arguments, script: &Path, expected: 
     }
 }
 
-fn main() {
-    let args: Vec<String> = std::env::args().collect();
-    if args.len() < 5 {
-        println!("usage: compare_overtakers FOLDER SEED RANDOM_RUNS PROGRAM..");
-        exit(2);
-    }
-    let (seed, random_runs) = (args[2].parse().expect("seed"), args[3].parse().expect("number"));
-    let mut folder = Folder::new(&args[1]);
+/// The arguments after the tool.
+fn compare_all<Found: Display>(tested: &Tested<Found>, args: &[String]) {
+    let (seed, random_runs) = (args[1].parse().expect("seed"), args[2].parse().expect("number"));
+    let mut folder = Folder::new(&args[0]);
     let mut grounds = Grounds::default();
     let mut compared = 0;
-    for asked in cases(&mut Rng::new(seed), random_runs) {
+    for asked in (tested.cases)(&mut Rng::new(seed), random_runs) {
         let file = folder.put(&asked.name, &asked.script);
-        let run = run(&asked.script);
+        let run = tested.tool.run(&asked.script);
         for arguments in &asked.lists {
-            let answered = answer(arguments, &run);
-            compare(&args[4..], arguments, &file, &printed(&answered));
-            overtaker_grounds::count(&mut grounds, &Case { arguments, script: &asked.script, run: &run, answered: &answered });
+            let answered = tested.tool.answer(arguments, &run);
+            compare(&args[3..], arguments, &file, &printed(&answered));
+            count(tested, &mut grounds, &Case { arguments, script: &asked.script, run: &run, answered: &answered });
             compared += 1;
         }
     }
-    let missing = overtaker_grounds::missing(&grounds);
+    let missing = missing(tested, &grounds);
     println!("seed {} scripts {} cases {}, never came up {:?}", seed, folder.made, compared, missing);
     exit(if missing.is_empty() { 0 } else { 1 });
+}
+
+fn main() {
+    let args: Vec<String> = std::env::args().collect();
+    let tool = args.get(1).map_or("", |tool| tool);
+    match (tool, args.len() >= 6) {
+        ("overtaker", true) => compare_all(&overtaker_grounds::TESTED, &args[2..]),
+        ("cause", true) => compare_all(&cause_grounds::TESTED, &args[2..]),
+        _ => {
+            println!("usage: compare_tools overtaker|cause FOLDER SEED RANDOM_RUNS PROGRAM..");
+            exit(2);
+        }
+    }
 }
