@@ -1,6 +1,9 @@
 // What the programs that ask about one operation read: the member and the ordinal as arguments, and a script from standard input.
+ghost use mathlib.Core.Path.{_≡_};
+ghost use mathlib.Core.Bool.{true, false};
 ghost use Prim.Native.Nat.{_≤_};
 ghost use lib.ListN.{length};
+ghost use Rattle.tool_input.specs.Meaning.{Held};
 use overtaker::Asked;
 use streams::Input;
 use streams::read_all;
@@ -17,7 +20,10 @@ fn argument_count() -> usize {
     count - 1
 }
 
-pub fn read_arguments() -> Asked {
+// What they ask for. Which bytes they are, no contract can say.
+pub fn read_arguments() -> Asked
+    ensures { λ r. ⌜ Held r ⌝ }
+{
     let mut first = [0u8; LONGEST_ARGUMENT];
     let mut second = [0u8; LONGEST_ARGUMENT];
     let a = os::arg(1, &mut first);
@@ -28,6 +34,7 @@ pub fn read_arguments() -> Asked {
 // The script. Nothing is read where the arguments ask for no operation.
 pub fn read_script(asked: Asked, input: &mut [u8]) -> Input
     ensures { λ r. ⌜ r .length ≤ length (now (input .exit)) ⌝ }
+    ensures { λ r. ⌜ (asked .ok ≡ false → (r .ok ≡ true) × ((r .length ≡ 0) × (now (input .exit) ≡ now (input .entry)))) ⌝ }
 {
     if !asked.ok {
         return Input {

@@ -18,7 +18,7 @@ answered c = c .before .before .before .before .before
 slice-aggregate-answer : tie.Need-slice-aggregate-answer
 slice-aggregate-answer c =
     let r = read c .read-script in
-    sym (length-take-le (r .result .length) (r .last .1 .0) (r .ensures))
+    sym (length-take-le (r .result .length) (r .last .1 .0) (r .ensures .0))
 
 slice-aggregate-write-out : tie.Need-slice-aggregate-write-out
 slice-aggregate-write-out c =
