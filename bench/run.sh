@@ -23,6 +23,12 @@ timed() {
     done
 }
 
+# 1,000,000 steps: the operations of 12 members in turn, on every slot.
+busy() {
+    awk 'BEGIN { print "members 12"; for (k = 0; k < 200000; k++) { m = k % 12 + 1; r = int(k / 12) % 12 + 1
+        print (m == r ? "write " m " " k : "read " m " " r); for (i = 0; i < 4; i++) print "deliver " m } }'
+}
+
 # The program on whole operations of a board of 12, a tenth as many steps first: the cost of a step does not grow with the run.
 program() {
     local board=target/bin/concur_board steps start end
@@ -30,8 +36,7 @@ program() {
         echo "the board program is not timed: there is no $board (rt check concur_board)"
         return
     fi
-    awk 'BEGIN { print "members 12"; for (k = 0; k < 200000; k++) { m = k % 12 + 1; r = int(k / 12) % 12 + 1
-        print (m == r ? "write " m " " k : "read " m " " r); for (i = 0; i < 4; i++) print "deliver " m } }' >"$out/script"
+    busy >"$out/script"
     for steps in 100000 1000000; do
         head -n $((steps + 1)) "$out/script" >"$out/part"
         start=$(date +%s%N)
@@ -42,14 +47,15 @@ program() {
     done
 }
 
-# by_turns WHAT ROUNDS BOARD_SCRIPT TOOL_SCRIPT TOOL: the board program on one script and target/bin/TOOL 1 1 on the other, so many runs of each.
+# by_turns WHAT ROUNDS BOARD_SCRIPT TOOL_SCRIPT TOOL [ARGUMENT..]: the board program on one script and target/bin/TOOL on the other, so many
+# runs of each.
 by_turns() {
     local board=target/bin/concur_board tool=target/bin/$5 times round
     for round in $(seq "$2"); do
         times=${EPOCHREALTIME/./}
         "$board" <"$3" >"$out/printed"
         times="$times ${EPOCHREALTIME/./}"
-        "$tool" 1 1 <"$4" >"$out/printed"
+        "$tool" "${@:6}" <"$4" >"$out/printed"
         echo "$times ${EPOCHREALTIME/./}"
     done | awk -v what="$1" -v name="$5" '{ a = $2 - $1; b = $3 - $2
             if (NR == 1 || a < board) board = a; if (NR == 1 || b < tool) tool = b }
@@ -80,7 +86,7 @@ overtaker() {
         printf "write 0 "; for (left -= 9; left > 0; left--) printf "1"; print "" }' >"$out/script"
     [ "$(wc -c <"$out/script")" -eq 65535 ]
     [ "$(target/bin/concur_overtaker 1 1 <"$out/script")" = "2 4" ]
-    by_turns "65,535 bytes" 100 "$out/script" "$out/script" concur_overtaker
+    by_turns "65,535 bytes" 100 "$out/script" "$out/script" concur_overtaker 1 1
 }
 
 # The tool that finds the step that cost an operation on a script of 256 steps of which none is found, beside the board program on 65,536:
@@ -95,7 +101,14 @@ cause() {
     (echo "members 12"; cat "$out/steps") >"$out/script"
     (echo "members 12"; for _ in $(seq 256); do cat "$out/steps"; done) >"$out/long"
     [ "$(target/bin/concur_cause 1 1 <"$out/script")" = none ]
-    by_turns "256 steps beside 65,536" 40 "$out/long" "$out/script" concur_cause
+    by_turns "256 steps beside 65,536" 40 "$out/long" "$out/script" concur_cause 1 1
+}
+
+# The bill program beside the board program, on the same 1,000,000 steps.
+bill() {
+    built concur_board concur_bill || return 0
+    busy >"$out/script"
+    by_turns "1,000,000 steps" 10 "$out/script" "$out/script" concur_bill
 }
 
 # earlier CRATE PROGRAM: bench/PROGRAM.rs with the crate's archive here and, each of its functions under another name, the revision's. They
@@ -124,3 +137,4 @@ timed board target/staticlib/libboard.a
 program
 overtaker
 cause
+bill

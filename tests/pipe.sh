@@ -8,6 +8,7 @@ called=pipe
 program=("$(readlink -f "${2:-target/bin/concur_board}")")
 simulator=$1/simulator
 source tests/piped.sh
+source tests/operations.sh
 
 # Document 01's example in pieces that end in a word, at a number, before a line feed and behind it.
 fed 'mem' 'bers 2' '\nwrite 1 7' '7\n' 'deliver 1\ndeliver 1\ndel' 'iver 1\ndeliver 1\nread 2 1\n' \
@@ -37,30 +38,17 @@ cp "$work/early" "$work/out"
 same "output while the pipe stays open"
 wait
 
-# A refused first line ends the program, and so do 1,000,000 steps, though the pipe stays open; step 1,000,000 comes after a pause.
-{ printf 'members 13\n'; exec sleep 90; } >"$work/pipe" &
-run
-kill $!
-printf 'board refused 1\n' >"$work/expected"
-same "a refused first line, and the pipe stays open"
-
+# A refused first line ends the program, and so do 1,000,000 steps; step 1,000,000 comes after a pause.
+refused_open
 { echo 'members 12'; yes 'deliver 3' | head -n 999999; } >"$work/script"
-{ cat "$work/script"; sleep 1; printf 'crash 3\n'; sleep 0.2; printf 'crash 4\n' || true; exec sleep 90; } >"$work/pipe" 2>/dev/null &
-run
-kill $! || true
 { cat "$work/script"; printf 'crash 3\ncrash 4\n'; } | "$simulator" >"$work/expected"
-same "step 1,000,000, and the pipe stays open"
+last_step 'crash 3' 'crash 4'
 
-# A read of exactly the buffer's size: the pipe holds 65,536 bytes before the program starts, and the line goes on behind them or not.
-{ echo 'members 4'; yes 'write 2 5
-deliver 2
-deliver 2
-deliver 2
-deliver 2' | head -n 9000; } >"$work/script"
+# The line goes on behind the 65,536 bytes or not.
+{ echo 'members 4'; operations 1800 'write 2 5'; } >"$work/script"
 for rest in 0 1 3000; do
-    full 65536 "$rest" "$work/script"
     head -c $((65536 + rest)) "$work/script" | "$simulator" >"$work/expected"
-    same "a read of 65,536 bytes, and $rest behind them"
+    buffer "$rest"
 done
 
 # Where reading fails; and where writing fails, the program ends though the pipe stays open.

@@ -60,6 +60,31 @@ full() {
     wait $! || true
 }
 
+# buffer REST: a read of exactly the buffer's size. The pipe holds 65,536 bytes of $work/script before the program starts, and REST more
+# come after a pause.
+buffer() {
+    full 65536 "$1" "$work/script"
+    same "a read of 65,536 bytes, and $1 behind them"
+}
+
+# refused_open: a refused first line ends the program, though the pipe stays open.
+refused_open() {
+    { printf 'members 13\n'; exec sleep 90; } >"$work/pipe" &
+    run
+    kill $!
+    echo 'board refused 1' >"$work/expected"
+    same "a refused first line, and the pipe stays open"
+}
+
+# last_step LAST BEHIND: behind the 999,999 steps of $work/script LAST comes after a pause, and ends the program though BEHIND comes too and
+# the pipe stays open.
+last_step() {
+    { cat "$work/script"; sleep 1; echo "$1"; sleep 0.2; echo "$2" || true; exec sleep 90; } >"$work/pipe" 2>/dev/null &
+    run
+    kill $! || true
+    same "step 1,000,000, and the pipe stays open"
+}
+
 # unreadable: where reading fails, nothing is printed, and standard error says so.
 unreadable() {
     "${program[@]}" <"$work" >"$work/out" 2>"$work/errors" || true

@@ -1,8 +1,8 @@
 #!/bin/bash
 # Usage: build.sh OUTDIR
-# Builds simulator, overtaker_simulator, cause_simulator, selftest, gen_scripts,
-# compare_tools, and with the stub library capi, interleavings and halves. For
-# the real libraries: link.sh OUTDIR PROGRAM LIBRARY..
+# Builds simulator, overtaker_simulator, cause_simulator, bill_simulator, selftest,
+# gen_scripts, compare_tools, and with the stub library capi, interleavings and
+# halves. For the real libraries: link.sh OUTDIR PROGRAM LIBRARY..
 set -e
 if [ $# -ne 1 ]; then
     echo "usage: build.sh OUTDIR"
@@ -12,7 +12,7 @@ mkdir -p "$1"
 out=$(readlink -f "$1")
 cd "$(dirname "$0")"
 rustc -O --edition 2021 main_sim.rs -o "$out/simulator"
-for tool in overtaker cause; do
+for tool in overtaker cause bill; do
     rustc -O --edition 2021 "${tool}_sim.rs" -o "$out/${tool}_simulator"
 done
 for program in selftest gen_scripts compare_tools; do

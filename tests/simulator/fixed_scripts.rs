@@ -30,29 +30,6 @@ pub fn fixed_scripts() -> Vec<(String, Vec<u8>)> {
     scripts.made
 }
 
-fn member_and_slot(begin: &Call) -> (u32, u32) {
-    match begin {
-        Call::Begin { member, slot, .. } => (*member, *slot),
-        _ => panic!("not a begin"),
-    }
-}
-
-/// An operation with all its delivers, nobody in between.
-fn whole(begin: Call) -> Vec<Call> {
-    let (member, _) = member_and_slot(&begin);
-    let mut calls = vec![begin];
-    calls.extend(vec![deliver(member); 4]);
-    calls
-}
-
-fn script_of(n: u32, calls: &[Call]) -> Vec<u8> {
-    let mut text = format!("members {}\n", n);
-    for call in calls {
-        text += &line_of(call);
-    }
-    text.into_bytes()
-}
-
 fn first_lines(scripts: &mut Scripts) {
     scripts.put("empty_input", b"");
     scripts.put("only_line_feed", b"\n");
@@ -233,7 +210,7 @@ fn crashes(scripts: &mut Scripts) {
 
 /// Member 1 makes so many steps of its operation and crashes; the rival's
 /// submit comes after its own.
-fn crash_after(begins: &Call, steps: usize, rival: bool) -> Vec<Call> {
+pub fn crash_after(begins: &Call, steps: usize, rival: bool) -> Vec<Call> {
     let (_, slot) = member_and_slot(begins);
     let mut calls = whole(begins.clone())[..steps].to_vec();
     if rival && steps > 1 {

@@ -2,8 +2,8 @@
 # Usage: mutants.sh OUTDIR [PATTERN]   (after build.sh OUTDIR)
 # Makes wrong stub libraries, wrong simulators and wrong tools, one fault each,
 # and sees that capi, interleavings, halves, compare_scripts.sh, compare_tools,
-# overtaker_pipe.sh, cause_pipe.sh or selftest notices every one. With a pattern
-# only those whose name it matches.
+# overtaker_pipe.sh, cause_pipe.sh, bill_pipe.sh or selftest notices every one.
+# With a pattern only those whose name it matches, as '^bill'.
 if [ $# -lt 1 ] || [ $# -gt 2 ] || [ ! -x "$1/simulator" ]; then
     echo "usage: mutants.sh OUTDIR [PATTERN], after build.sh OUTDIR"
     exit 2
@@ -15,6 +15,8 @@ shared=$out/shared
 pattern=${2:-}
 noticed=0
 missed=0
+rm -rf "$shared"
+mkdir -p "$shared"
 
 wanted() { # name
     [[ $1 =~ $pattern ]]
@@ -47,8 +49,20 @@ shared_library() { # source folder
     rustc -A warnings -O --edition 2021 --crate-type cdylib "$1/stub_library.rs" -o "$shared/libconcur.so" || exit 2
 }
 
+linked_once() { # capi, interleavings and halves, against a shared library that is then replaced by each wrong one
+    [ ! -x "$shared/halves" ] || return
+    shared_library "$here"
+    for linked in capi interleavings halves; do
+        rustc -O --edition 2021 "$here/$linked.rs" -o "$shared/$linked" -C link-arg="$shared/libconcur.so" || exit 2
+    done
+    for linked in capi halves; do
+        "$shared/$linked" 1 > "$shared/log" || { echo "the right library does not pass"; cat "$shared/log"; exit 2; }
+    done
+}
+
 library() { # name, file, perl change, "too" where interleavings is asked in any case
     wanted "$1" || return
+    linked_once
     spoil "$2" "$3"
     shared_library "$work/source"
     by=""
@@ -69,6 +83,7 @@ ask_halves() { # name, of the wrong library that stands there
 
 half() { # name, file, perl change: what capi and interleavings cannot notice
     wanted "$1" || return
+    linked_once
     spoil "$2" "$3"
     shared_library "$work/source"
     ask_halves "$1"
@@ -80,10 +95,13 @@ everywhere() { # name, perl change to what board and halves share in board.rs, "
     ask_halves "$1, in the halves"
 }
 
-alone() { # name, files, perl change: what the simulator must notice by itself
+alone() { # name, files, perl change: what the simulator must notice by itself; the one part of selftest that is asked, or all
     wanted "$1" || return
     spoil "$2" "$3"
-    rustc -A warnings -O --edition 2021 "$work/source/selftest.rs" -o "$work/wrong" || exit 2
+    if [ -n "$4" ]; then
+        perl -0pi -e "s/\n    layout\(\);.*(?=\n    println!\(.all passed)/\n    $4::all(\&mut Rng::new(seed));/s" "$work/source/selftest.rs"
+    fi
+    rustc -A warnings -O -C incremental="$shared/incremental" --edition 2021 "$work/source/selftest.rs" -o "$work/wrong" || exit 2
     if "$work/wrong" 1 3 > "$work/log" 2>&1; then
         verdict "$1" 0
     else
@@ -93,6 +111,7 @@ alone() { # name, files, perl change: what the simulator must notice by itself
 
 program() { # name, file, perl change
     wanted "$1" || return
+    [ -d "$out/scripts" ] || "$out/gen_scripts" "$out/scripts" 1 100
     spoil "$2" "$3"
     rustc -A warnings -O --edition 2021 "$work/source/main_sim.rs" -o "$work/wrong" || exit 2
     if "$here/compare_scripts.sh" "$work/wrong" "$out/simulator" "$out/scripts" > "$work/log"; then
@@ -111,8 +130,15 @@ compare_tool() { # tool, program, log
     "$out/compare_tools" "$1" "$out/asked_$1" 1 50 "$2" > "$3" 2>&1
 }
 
-tool() { # tool, name, files, perl change: a wrong tool that is asked about an operation
+right_once() { # tool, of which the right one has to pass
+    [ ! -e "$shared/$1" ] || return
+    compare_tool "$1" "$out/$1_simulator" "$shared/log" || { echo "the right tool does not pass"; tail -1 "$shared/log"; exit 2; }
+    touch "$shared/$1"
+}
+
+tool() { # tool, name, files, perl change: a wrong tool, or a wrong bill program
     wanted "$1: $2" || return
+    right_once "$1"
     wrong_tool "$1" "$3" "$4"
     if compare_tool "$1" "$work/wrong" "$work/log"; then
         verdict "$1: $2" 0
@@ -141,28 +167,25 @@ asked() { # name, perl change to asked.rs, which the simulator must notice by it
     alone "tools alone: $1" asked.rs "$2"
 }
 
-piped_tools() { # name, perl change to tool_main.rs: what shows through a pipe alone
-    for piped in overtaker cause; do
-        wanted "$piped: $1" || continue
-        wrong_tool "$piped" tool_main.rs "$2"
-        if bash "$here/../${piped}_pipe.sh" "$work/wrong" > "$work/log" 2>&1; then
-            verdict "$piped: $1" 0
-        else
-            verdict "$piped: $1" 1 "$(tail -1 "$work/log")"
-        fi
-    done
+bill() { # the same of bill.rs
+    tool bill "$1" "${3:-bill.rs}" "$2"
+    alone "bill alone: $1" "${3:-bill.rs}" "$2" billed
 }
 
-# The programs are linked once, against a shared library that is then
-# replaced by each wrong one.
-mkdir -p "$shared"
-shared_library "$here"
-for linked in capi interleavings halves; do
-    rustc -O --edition 2021 "$here/$linked.rs" -o "$shared/$linked" -C link-arg="$shared/libconcur.so" || exit 2
-done
-for linked in capi halves; do
-    "$shared/$linked" 1 > "$shared/log" || { echo "the right library does not pass"; cat "$shared/log"; exit 2; }
-done
+piped() { # tool, name, file, perl change: what shows through a pipe alone
+    wanted "$1: $2" || return
+    wrong_tool "$1" "$3" "$4"
+    if bash "$here/../$1_pipe.sh" "$work/wrong" > "$work/log" 2>&1; then
+        verdict "$1: $2" 0
+    else
+        verdict "$1: $2" 1 "$(tail -1 "$work/log")"
+    fi
+}
+
+piped_tools() { # name, file, perl change to what the tools share that are asked about an operation
+    piped overtaker "$@"
+    piped cause "$@"
+}
 
 library "an overtaken submit clears the mark" board.rs 's/entry.submit_member = member;/entry.submit_member = if entry.submit_member != 0 { 0 } else { member };/' too
 library "the first submit keeps the mark" board.rs 's/entry.submit_member = member;\n    entry.submit_count = count;/if entry.submit_member == 0 { entry.submit_member = member; entry.submit_count = count; }/' too
@@ -459,14 +482,13 @@ library "a table's begin with the auction's limit" board.rs 's/(pub fn begin\(se
 half "a half's begin with the common limit" board.rs 's/(pub fn half_begin\(self.*?)self.limit/$1COMMON.limit/s'
 half "a half's begin with the auction's limit" board.rs 's/(pub fn half_begin\(self.*?)self.limit/$1AUCTION.limit/s'
 
-[ -d "$out/scripts" ] || "$out/gen_scripts" "$out/scripts" 1 100
 program "leading zeros taken" script.rs 's/\(piece.len\(\) > 1 && piece\[0\] == b.0.\)/false/'
 program "0 refused" script.rs 's/piece.len\(\) > 1 && piece/piece.len() > 0 \&\& piece/'
 program "carriage return dropped" script.rs 's/(line.pop\(\);)/$1 if line.last() == Some(\&13) { line.pop(); }/'
 program "the last line needs its feed" script.rs 's/if line.last\(\) == Some\(&b.\\n.\) \{/if line.last() != Some(\&10) { return Ok(None); }\n    {/'
 program "one step more" script.rs 's/1_000_000/1_000_001/'
-program "empty lines are no steps" script.rs 's/step \+= 1;/if line.is_empty() { continue; } step += 1;/'
-program "phase shown at 17" script.rs 's/4 \| 17 => /4 => /; s/(None => .*?), 0\)/$1, 1)/'
+program "empty lines are no steps" script.rs 's/at \+= 1;/if line.is_empty() { continue; } at += 1;/'
+program "phase shown at 17" script.rs 's/(Some\(step\) if made.answer.number != 4.*?\n)/$1            None => phase_of(made.table, 1).to_string(),\n/'
 program "1 before 17" script.rs 's/if value > u32::MAX as u64 \{\n            return None/if value > u32::MAX as u64 {\n            return Some(u32::MAX)/'
 
 # Own reads in scripts, and in the simulator beside nothing but what was worked out by hand.
@@ -510,9 +532,6 @@ alone "alone: the book counts begins on all slots" reference.rs \
 alone "alone: the book asks 9 before 8" reference.rs 's/(return 8;)/if m.begins[slot as usize - 1] >= self.limit { return 9; } $1/'
 
 # Who overtook an operation: which submit, of all that the host took.
-for right in overtaker cause; do
-    compare_tool "$right" "$out/${right}_simulator" "$shared/log" || { echo "the right tool does not pass"; tail -1 "$shared/log"; exit 2; }
-done
 found='Ok\(\(\*first.expect\(.*?\)\).clone\(\)\)'
 or_31='first.map(|submit| (*submit).clone()).ok_or(Ground::NoOperation)'
 is_aborted='let operation = self.aborted\(member, ordinal\)\?;'
@@ -706,9 +725,11 @@ asked "65,535 bytes are refused" 's/65_535/65_534/'
 asked "the last line feed is not counted" 's/script.len\(\) > MOST_BYTES/script.strip_suffix(b"\\n").unwrap_or(script).len() > MOST_BYTES/'
 asked "31 for a longer script" 's/Ground::TooLong \| //; s/Ground::NoOperation \|/Ground::NoOperation | Ground::TooLong |/'
 both_tools "of a longer script the first 65,535 bytes are run" tool_main.rs 's/ as u64 \+ 1/ as u64/'
-both_tools "status 1 at a refusal" tool_main.rs 's/    0\n\}/    answered.is_err() as i32\n}/'
+both_tools "status 1 at a refusal" tool_main.rs \
+    's/(    standard::answer)/    let refused = std::cell::Cell::new(false);\n$1/; s/(Ok\(printed\(&answered\)\))/refused.set(answered.is_err()); $1/;
+        s/    \}\)\n\}/    }) + refused.get() as i32\n}/'
 both_tools "a refusal is said on standard error too" tool_main.rs \
-    's/    0\n\}/    if answered.is_err() { eprintln!("refused"); }\n    0\n}/'
+    's/(Ok\(printed\(&answered\)\))/if answered.is_err() { eprintln!("refused"); } $1/'
 
 # The most steps, and where 35 stands.
 for most in 255 257 128 512 65_535; do
@@ -771,15 +792,195 @@ for place in 0 1; do
 done
 
 # Reading and writing.
-piped_tools "what one read gives is taken" \
-    's/\(&\*input\).take\(.*?\).read_to_end\(&mut script\)\?;/
-        script.resize(65_536, 0); let size = (\&*input).read(\&mut script)?; script.truncate(size);/'
-piped_tools "an input that cannot be read is empty" \
-    's/let script = match read_input\(\) \{.*?\n    \};/let script = read_input().unwrap_or_default();/s'
-piped_tools "a closed input is empty" \
-    's/match read_input\(\) \{/
-        match read_input().or_else(|reason| if reason.raw_os_error() == Some(9) { Ok(Vec::new()) } else { Err(reason) }) {/'
-piped_tools "a failed write goes unsaid" 's/eprintln!\("standard output.*?;//'
+all_read='input.take\(.*?\).read_to_end\(&mut script\)'
+piped_tools "what one read gives is taken" tool_main.rs \
+    "s/$all_read\\?;/script.resize(65_536, 0); let mut input = input; let size = input.read(\\&mut script)?; script.truncate(size);/"
+piped_tools "an input that cannot be read is empty" tool_main.rs "s/($all_read)\\?;/\$1.unwrap_or_default();/"
+piped_tools "a closed input is empty" tool_main.rs \
+    "s/($all_read)\\?;/\$1.or_else(|reason| if reason.raw_os_error() == Some(9) { Ok(0) } else { Err(reason) })?;/"
+piped_tools "a failed write goes unsaid" standard.rs 's/eprintln!\("standard output.*?;//'
+
+# The tariff: which operations are free.
+own='let own = accepted.iter\(\).filter\((.*?)\);'
+behind_free='own.skip\(self.free\)'
+for free in 0 99 101 128 1_000; do
+    bill "$free are free" "s/free: 100/free: $free/"
+done
+counted_by() { # what a member's operations are counted by, each value with as many free ones
+    echo "s/$behind_free/{ let mut before = std::collections::BTreeMap::new(); own.filter(move |operation| { \
+        let number = before.entry($1).or_insert(0); *number += 1; *number > self.free }) }/"
+}
+bill "free ones by slot" "$(counted_by operation.slot)"
+bill "free ones by kind" "$(counted_by operation.op_type)"
+bill "free ones on the own slot and on the others" "$(counted_by '(operation.slot == operation.member)')"
+bill "free ones are shared by all members" "s/$own\\n *$behind_free/let own = accepted.iter().skip(self.free).filter(\$1);\\n        own/"
+bill "free ones by the slot's owner" \
+    "s/$own\\n *$behind_free/let own = accepted.iter().filter(|operation| operation.slot == member).skip(self.free).filter(\$1);\\n        own/"
+free_alone() { # those that use up free ones; the others cost nothing before that, or "always" cost
+    echo "s/$behind_free/{ let mut used = 0; own.filter(move |operation| { \
+        let uses = $1; let free = used < self.free \\&\\& (uses || ${2:-true}); used += (free \\&\\& uses) as usize; !free }) }/"
+}
+bill "reads use up no free ones" "$(free_alone 'operation.op_type == WRITE')"
+bill "reads are never free" "$(free_alone 'operation.op_type == WRITE' false)"
+bill "writes use up no free ones" "$(free_alone 'operation.op_type != WRITE')"
+bill "writes are never free" "$(free_alone 'operation.op_type != WRITE' false)"
+bill "own reads use up no free ones" "$(free_alone '(operation.op_type == WRITE || operation.slot != member)')"
+bill "own reads are never free" "$(free_alone '(operation.op_type == WRITE || operation.slot != member)' false)"
+bill "reads of another's slot use up no free ones" "$(free_alone 'operation.slot == member')"
+bill "the last ones are free" "s/$behind_free/own.rev().skip(self.free)/"
+bill "the dearest are free" "s/$behind_free/{ let mut own: Vec<_> = own.collect(); own.sort_by_key(|one| one.op_type != WRITE); own.into_iter().skip(self.free) }/"
+bill "the cheapest are free" "s/$behind_free/{ let mut own: Vec<_> = own.collect(); own.sort_by_key(|one| one.op_type == WRITE); own.into_iter().skip(self.free) }/"
+bill "nothing is free above 100" "s/$behind_free/own.clone().skip(if own.clone().count() > self.free { 0 } else { self.free })/"
+bill "the free ones are counted in a byte" "s/$behind_free/own.enumerate().filter(|(place, _)| *place % 256 >= self.free).map(|(_, one)| one)/"
+bill "every 101st is billed" "s/$behind_free/own.enumerate().filter(|(place, _)| place % (self.free + 1) == self.free).map(|(_, one)| one)/"
+
+# What the others cost.
+bill "the prices exchanged" 's/write: 35, read: 4/write: 4, read: 35/'
+for write in 30 34 36 40 350; do
+    bill "a write costs $write" "s/write: 35/write: $write/"
+done
+for read in 0 3 5 10 40; do
+    bill "a read costs $read" "s/read: 4 /read: $read /"
+done
+is_write='if operation.op_type == WRITE \{'
+bill "own reads cost as writes" "s/$is_write/if operation.slot == operation.member {/"
+bill "own reads cost nothing" "s/($is_write)/if operation.op_type != WRITE \\&\\& operation.slot == operation.member { return 0; }\\n        \$1/"
+bill "reads of another's slot cost nothing" "s/($is_write)/if operation.slot != operation.member { return 0; }\\n        \$1/"
+bill "reads of another's slot cost as writes" "s/$is_write/if operation.op_type == WRITE || operation.slot != operation.member {/"
+bill "the slot's owner pays" 's/operation.member == member/operation.slot == member/'
+bill "the last one's price is paid for all" "s/(own.skip.*?)\\n    \\}/let dear = accepted.iter().rev().find(|operation| operation.member == member); \
+        let number = own.skip(self.free).count() as u64; dear.map_or(0, |operation| number * self.price(operation))\\n    }/s"
+
+# Rounding and the total.
+price='self.price\(operation\)'
+rounded='\+ 9\) \/ 10'
+bill "each price is rounded up" "s/\\| $price/| ($price + 9) \\/ 10 * 10/"
+bill "each price is rounded down" "s/\\| $price/| $price \\/ 10 * 10/"
+bill "sums are rounded down" "s/$rounded/) \\/ 10/"
+for more in 4 5 8 10; do
+    bill "sums are rounded with $more tenths more" "s/$rounded/+ $more) \\/ 10/"
+done
+bill "tenths are printed" "s/$rounded/)/"
+bill "cents are kept in 16 bits" "s/(\\(self.tenths\\(accepted, member\\) $rounded)/(\$1) % 65_536/"
+bill "tenths are kept in 16 bits" "s/self.tenths\\(accepted, member\\) $rounded/self.tenths(accepted, member) % 65_536 + 9) \\/ 10/"
+summed='self.cents.iter\(\).sum\(\)'
+all_tenths='s/pub cents: Vec<u64>,/pub cents: Vec<u64>, pub tenths: u64,/;
+    s/Bill \{ cents: (.*?) \}\n/Bill { cents: $1, tenths: (1..=n).map(|member| self.tenths(accepted, member)).sum() }\n/;'
+bill "the total of unrounded sums, rounded up" "$all_tenths s/$summed/(self.tenths + 9) \\/ 10/"
+bill "the total of unrounded sums, rounded down" "$all_tenths s/$summed/self.tenths \\/ 10/"
+bill "the total without the last member" "s/$summed/self.cents[..self.cents.len() - 1].iter().sum()/"
+bill "the total without the first member" "s/$summed/self.cents[1..].iter().sum()/"
+bill "the total is the largest bill" "s/$summed/*self.cents.iter().max().unwrap()/"
+bill "the total is the last bill" "s/$summed/*self.cents.last().unwrap()/"
+bill "the total in 16 bits" "s/$summed/self.cents.iter().sum::<u64>() % 65_536/"
+
+# What is printed.
+line='writeln!\(out, "\{\} \{\}", member, cents\)\?;'
+total='writeln!\(out, "\{\}", self.total\(\)\)'
+bill "no line for 0 cents" "s/($line)/if *cents > 0 { \$1 }/"
+bill "no line behind the last who pays" "s/($line)/if self.cents[member as usize - 1..].iter().any(|cents| *cents > 0) { \$1 }/"
+bill "a heading as the board has it" "s/(for \\(member, cents\\) in .*? \\{\\n)/writeln!(out, \"board {}\", self.cents.len())?;\\n        \$1/"
+bill "number and cents exchanged" "s/$line/writeln!(out, \"{} {}\", cents, member)?;/"
+bill "members from 0" 's/\(1\.\.\)\.zip\(&self/(0..).zip(\&self/'
+bill "members downwards" 's/\(1\.\.\)\.zip\(&self.cents\)/(1..).zip(\&self.cents).collect::<Vec<(u32, _)>>().into_iter().rev()/'
+for between in ', ' '  ' '\\t' ': '; do
+    bill "'$between' between" "s/\"\\{\\} \\{\\}\", member/\"{}$between{}\", member/"
+done
+bill "cents with their tenths" "s/$line/writeln!(out, \"{} {}.0\", member, cents)?;/"
+bill "no total" "s/$total/Ok(())/"
+bill "the total with a word" "s/$total/writeln!(out, \"total {}\", self.total())/"
+bill "the total without its line feed" "s/$total/write!(out, \"{}\", self.total())/"
+bill "an empty line before the total" "s/$total/writeln!(out, \"\\\\n{}\", self.total())/"
+bill "the total before the members" "s/(        for \\(member, cents\\).*?\\n        \\}\\n)        $total/        $total?;\\n\$1        Ok(())/s"
+bill "no total for one member" "s/($total)/if self.cents.len() == 1 { return Ok(()); }\\n        \$1/"
+bill "a line for twelve members always" 's/Bill \{ cents: \(1\.\.=n\)/Bill { cents: (1..=n.max(12))/'
+
+# When an operation is billed.
+is_accepted='phase_of\(made.table, member\) == ACCEPTED_SENT'
+pushed='accepted.push\((.*?)\);'
+waits='s/(let mut accepted = Vec::new\(\);)/$1 let mut waiting: Vec<Option<Accepted>> = vec![None; n as usize + 1];/;'
+bill "billed at the submit" 's/== ACCEPTED_SENT/== 2/'
+bill "billed at the reply" 's/== ACCEPTED_SENT/== 3/'
+bill "billed at completion" "$waits s/$pushed\\n *\\}/waiting[member as usize] = Some(\$1); } \
+    else if made.answer.number == 0 \\&\\& phase_of(made.table, member) == 0 { accepted.extend(waiting[member as usize].take()); }/"
+bill "aborted ones are billed" "s/$is_accepted/phase_of(made.table, member) >= ACCEPTED_SENT \\&\\& phase_of(made.table, member) <= 5/"
+bill "aborted ones alone are billed" 's/== ACCEPTED_SENT/== 5/'
+bill "aborted ones use up free ones" "s/$is_accepted/[4, 5].contains(\\&phase_of(made.table, member))/; \
+    s/let Block \\{ slot, op_type, .. \\} = (.*?);/let Block { slot, op_type, phase, .. } = \$1; let op_type = if phase == 5 { 0 } else { op_type };/; \
+    s/($is_write)/if operation.op_type == 0 { return 0; }\\n        \$1/"
+deliver_line='if let Some\(Step::Deliver \{ member \}\) = made.step \{'
+crashes='if let (Some(Step::Crash { member }), 0) = (made.step.clone(), made.answer.number)'
+bill "crashed members owe nothing" "s/($deliver_line)/$crashes { accepted.retain(|one: \\&Accepted| one.member != member); }\\n        \$1/"
+bill "what a member is not told by its crash is not billed" \
+    "s/($deliver_line)/$crashes { if phase_of(made.table, member) == ACCEPTED_SENT { \
+        let last = accepted.iter().rposition(|one: \\&Accepted| one.member == member); accepted.remove(last.unwrap()); } }\\n        \$1/"
+bill "a crashed member's commit is not billed" "s/($is_accepted)/\$1 \\&\\& block_of(made.table, member).crash_mark == 0/"
+bill "a crash behind the verdict is billed" 's/Some\(Step::Deliver \{ member \}\)/Some(Step::Deliver { member } | Step::Crash { member })/'
+bill "a refused deliver behind the verdict is billed" 's/made.answer.number == 0 && /made.answer.number != 4 \&\& /'
+bill "a refused begin behind the verdict is billed" \
+    "s/$deliver_line/if let Some(step) = made.step.clone() { let member = step.member();/; \
+        s/made.answer.number == 0 && ($is_accepted)/(made.answer.number == 0 \\&\\& matches!(step, Step::Deliver { .. }) || made.answer.number == 8) \\&\\& \$1/"
+bill "operations on the last slot are not billed" "s/$pushed/if slot < n || n == 1 { accepted.push(\$1); }/"
+bill "of the same kind one after another one is billed" \
+    "s/$pushed/if accepted.last() != Some(\\&\$1) { accepted.push(\$1); }/"
+
+# Lines and steps, as the bill program reads them.
+script() { # the same of script.rs
+    bill "$1" "$2" script.rs
+}
+for most in 999_999 1_000_001 65_536 900_000; do
+    script "the bill ends after $most steps" "s/1_000_000/$most/"
+done
+script "the bill goes on to the end of the input" 's/at < MOST_STEPS/true/'
+counts='at \+= 1;'
+script "bad lines are no steps" "s/$counts/if !matches!(parse(\\&line), Some(Line::Step(_))) { continue; } $counts/"
+script "empty lines are no steps" "s/$counts/if line.is_empty() { continue; } $counts/"
+script "refused calls are no steps" "s/(see\\(&Made.*?;)/let refused = answer.number != 0 \\&\\& step.is_some(); \$1 at -= refused as u64;/"
+script "a bad line ends the run" 's/None => \(None, Answer \{ number: 17, returned: None \}\)/None => break/'
+script "a refused call ends the run" 's/(see\(&Made.*?;)/let refused = answer.number != 0; $1 if refused \&\& step_is_call { break; }/; s/(let \(step, answer\) = match parse\(&line\))/let step_is_call = matches!(parse(\&line), Some(Line::Step(_))); $1/'
+script "a second first line opens anew" \
+    's/Some\(Line::Members\(_\)\) \| None => /Some(Line::Members(again)) if again == n => { table = new_table(n); (None, Answer { number: 17, returned: None }) }\n            Some(Line::Members(_)) | None => /'
+feed='if line.last\(\) == Some\(&b.\\n.\) \{'
+script "a last line without its line feed is dropped" "s/$feed/if line.last() != Some(\\&10) { return Ok(None); }\\n    {/"
+script "a carriage return is dropped" 's/(line.pop\(\);)/$1 if line.last() == Some(\&13) { line.pop(); }/'
+script "leading zeros are taken" 's/\(piece.len\(\) > 1 && piece\[0\] == b.0.\)/false/'
+script "spaces at the end are dropped" 's/(line.pop\(\);)/$1 while line.last() == Some(\&32) { line.pop(); }/'
+script "words are compared by their first letter" 's/word == b"(\w)\w+"/word.first() == Some(\&b"$1"[0])/g'
+script "a third number is passed over" 's/pieces.len\(\) == 3/pieces.len() >= 3/'
+bill "17 for members that are too many" 's/return Ok\(refused\(number\)\)/return Ok(refused(17.max(number)))/'
+bill "a refusal's number alone" 's/return Ok\(refused\(number\)\)/return Ok(format!("{}\\n", number))/'
+bill "a refused input has a total of 0" 's/return Ok\(refused\(number\)\)/return Ok("0\\n".to_string())/'
+bill "a refused input prints nothing" 's/return Ok\(refused\(number\)\)/return Ok(String::new())/'
+bill "bill refused" 's/return Ok\(refused\(number\)\)/return Ok(refused(number).replace("board", "bill"))/'
+bill "no line at all is a bill of nothing" \
+    's/(let n = match first_line)/if input.fill_buf()?.is_empty() { return Ok("0\\n".to_string()); }\n    $1/'
+bill "a refused first line is passed over" \
+    's/(Err\(number\) => return)/Err(_) if !input.fill_buf()?.is_empty() => return printed(input, tariff),\n        $1/'
+script "members above 12 are taken for 12" 's/Some\(Line::Members\(_\)\) => Err\(1\)/Some(Line::Members(n)) if n > 12 => Ok(12),\n        Some(Line::Members(_)) => Err(1)/'
+script "no member is taken for one" 's/Some\(Line::Members\(_\)\) => Err\(1\)/Some(Line::Members(0)) => Ok(1),\n        Some(Line::Members(_)) => Err(1)/'
+
+# The bill through a pipe.
+answered='bill::printed\(&mut BufReader::new\(input\), &bill::TARIFF\)\?'
+piped bill "what one read gives is taken" bill_sim.rs \
+    "s/$answered/{ use std::io::Read; let mut piece = vec![0; 65_536]; let mut input = input; let size = input.read(\\&mut piece)?; \
+        bill::printed(\\&mut \\&piece[..size], \\&bill::TARIFF)? }/"
+piped bill "all of the input is read first" bill_sim.rs \
+    "s/$answered/{ use std::io::Read; let mut all = Vec::new(); let mut input = input; input.read_to_end(\\&mut all)?; \
+        bill::printed(\\&mut \\&all[..], \\&bill::TARIFF)? }/"
+piped bill "an input that cannot be read is empty" bill_sim.rs \
+    's/(bill::printed\(.*?\))\?/$1.unwrap_or("board refused 17\\n".to_string())/'
+piped bill "a closed input is empty" bill_sim.rs \
+    's/(bill::printed\(.*?\))\?/$1.or_else(|reason| if reason.raw_os_error() == Some(9) { Ok("board refused 17\\n".to_string()) } else { Err(reason) })?/'
+piped bill "the rest is read behind the last step" bill.rs \
+    's/(let n = match first_line.*)Ok\((tariff.bill.*?\.to_string\(\))\)/$1let all = accepted(input, n)?; while next_line(input)?.is_some() {}\n    Ok(tariff.bill(n, \&all).to_string())/s;
+        s/make_steps, refused/make_steps, next_line, refused/'
+piped bill "the rest is read behind a refused line" bill.rs \
+    's/Err\(number\) => return/Err(number) => { while next_line(input)?.is_some() {} return/; s/refused\(number\)\),/refused(number)); }/;
+        s/make_steps, refused/make_steps, next_line, refused/'
+piped bill "a bill at every acceptance" bill.rs \
+    "s/($pushed)/\$1 println!(\"{}\", TARIFF.bill(n, \\&accepted));/"
+piped bill "a failed write goes unsaid" standard.rs 's/eprintln!\("standard output.*?;//'
+
 rm -rf "$work" "$shared"
 echo "noticed $noticed, missed $missed"
 [ $missed -eq 0 ]

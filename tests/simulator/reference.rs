@@ -6,7 +6,7 @@ pub type Sheet = [u32; 8];
 const READ: u32 = 1;
 const WRITE: u32 = 2;
 
-#[derive(Clone, Debug, PartialEq, Eq)]
+#[derive(Clone, Copy, Debug, PartialEq, Eq)]
 pub enum Call {
     Begin { member: u32, slot: u32, op_type: u32, sheet: Sheet },
     Deliver { member: u32 },

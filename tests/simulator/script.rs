@@ -98,41 +98,65 @@ pub fn next_line(input: &mut dyn BufRead) -> Result<Option<Vec<u8>>> {
     Ok(Some(line))
 }
 
-pub fn run(input: &mut dyn BufRead, output: &mut dyn Write) -> Result<()> {
+/// What the first line opens: a board of n, or the number by which it is refused.
+pub fn first_line(input: &mut dyn BufRead) -> Result<std::result::Result<u32, u32>> {
     let first = match next_line(input)? {
         Some(line) => parse(&line),
         None => None,
     };
-    let n = match first {
-        Some(Line::Members(n)) => n,
-        _ => return writeln!(output, "board refused 17"),
-    };
-    if !n_is_good(n) {
-        return writeln!(output, "board refused 1");
-    }
-    writeln!(output, "board {}", n)?;
+    Ok(match first {
+        Some(Line::Members(n)) if n_is_good(n) => Ok(n),
+        Some(Line::Members(_)) => Err(1),
+        _ => Err(17),
+    })
+}
 
+pub fn refused(number: u32) -> String {
+    format!("board refused {}\n", number)
+}
+
+/// A line behind the first, as the board answered it.
+pub struct Made<'a> {
+    pub at: u64, // from 1
+    pub step: Option<Step>, // none where the line is of another form
+    pub answer: Answer,
+    pub table: &'a [u32], // after it
+}
+
+/// Makes the steps behind the first line on a board of n, and shows each.
+pub fn make_steps(input: &mut dyn BufRead, n: u32, mut see: impl FnMut(&Made) -> Result<()>) -> Result<()> {
     let mut table = new_table(n);
-    let mut step = 0;
-    while step < MOST_STEPS {
+    let mut at = 0;
+    while at < MOST_STEPS {
         let line = match next_line(input)? {
             Some(line) => line,
             None => break,
         };
-        step += 1;
-        let (answer, member) = match parse(&line) {
-            Some(Line::Step(step)) => (step.make(&mut table), step.member()),
-            Some(Line::Members(_)) | None => (Answer { number: 17, returned: None }, 0),
+        at += 1;
+        let (step, answer) = match parse(&line) {
+            Some(Line::Step(step)) => (Some(step.clone()), step.make(&mut table)),
+            Some(Line::Members(_)) | None => (None, Answer { number: 17, returned: None }),
         };
-        let phase = match answer.number {
-            4 | 17 => "-".to_string(),
-            _ => phase_of(&table, member).to_string(),
+        see(&Made { at, step, answer, table: &table })?;
+    }
+    Ok(())
+}
+
+pub fn run(input: &mut dyn BufRead, output: &mut dyn Write) -> Result<()> {
+    let n = match first_line(input)? {
+        Ok(n) => n,
+        Err(number) => return write!(output, "{}", refused(number)),
+    };
+    writeln!(output, "board {}", n)?;
+    make_steps(input, n, |made| {
+        let phase = match &made.step {
+            Some(step) if made.answer.number != 4 => phase_of(made.table, step.member()).to_string(),
+            _ => "-".to_string(),
         };
-        let value = match answer.returned {
+        let value = match made.answer.returned {
             Some(sheet) => sheet[7].to_string(),
             None => "-".to_string(),
         };
-        writeln!(output, "{} {} {} {}", step, answer.number, phase, value)?;
-    }
-    Ok(())
+        writeln!(output, "{} {} {} {}", made.at, made.answer.number, phase, value)
+    })
 }

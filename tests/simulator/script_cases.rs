@@ -112,6 +112,35 @@ pub fn deliver(member: u32) -> Call {
     Call::Deliver { member }
 }
 
+/// Of a begin.
+pub fn member_and_slot(begin: &Call) -> (u32, u32) {
+    match begin {
+        Call::Begin { member, slot, .. } => (*member, *slot),
+        _ => panic!("not a begin"),
+    }
+}
+
+/// An operation with all its delivers, nobody in between.
+pub fn whole(begin: Call) -> Vec<Call> {
+    let (member, _) = member_and_slot(&begin);
+    let mut calls = vec![begin];
+    calls.extend(vec![deliver(member); 4]);
+    calls
+}
+
+/// So many operations, each accepted and told.
+pub fn times(begin: Call, times: usize) -> Vec<Call> {
+    whole(begin).repeat(times)
+}
+
+pub fn script_of(n: u32, calls: &[Call]) -> Vec<u8> {
+    let mut text = format!("members {}\n", n);
+    for call in calls {
+        text += &line_of(call);
+    }
+    text.into_bytes()
+}
+
 pub fn bad_line(rng: &mut Rng) -> Vec<u8> {
     let good = match rng.below(4) {
         0 => format!("write {} {}", rng.between(1, 4), rng.word()),

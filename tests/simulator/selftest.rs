@@ -5,6 +5,9 @@
 mod asked;
 mod asked_cases;
 mod auction;
+mod bill;
+mod bill_cases;
+mod billed;
 mod board;
 mod c_sim;
 mod calls;
@@ -60,6 +63,7 @@ fn main() {
     auction::all();
     overtaken::all(&mut Rng::new(seed));
     caused::all(&mut Rng::new(seed));
+    billed::all(&mut Rng::new(seed));
     message_grounds();
     message_round_trips(&mut Rng::new(seed));
     random_runs(seed, runs);

@@ -1,7 +1,7 @@
 // The board program: a script from standard input, and what it prints to standard output.
-ghost use Prim.Native.Nat.{_-_, _≤_, _<_};
+ghost use Prim.Native.Nat.{_≤_};
 ghost use mathlib.Core.Path.{_≡_};
-ghost use mathlib.Core.Bool.{true, false, cond, not, _&&_};
+ghost use mathlib.Core.Bool.{true, false, not, _&&_};
 ghost use lib.Dec.{ltb};
 ghost use lib.ListN.{length};
 ghost use Rattle.script.specs.Meaning.{longestPrinted};
@@ -12,7 +12,9 @@ use script_run::MOST_WORDS;
 use script_run::Progress;
 use script_run::steps::feed;
 use script_run::steps::finish;
+use streams::MOST_TURNS;
 use streams::read_some;
+use streams::turns_left;
 use streams::write_out;
 
 // How far the script has come, and whether there may be more to read.
@@ -92,23 +94,12 @@ fn read_piece(
     take_piece(table, kept, p, &input[..n], out)
 }
 
-// One turn fewer, or none where there is no more to read.
-fn turns_left(turns: u64, more: bool) -> u64
-    requires { ⌜ 0 < turns ⌝ }
-    ensures { λ r. ⌜ (r ≡ cond more (turns - 1) 0) × (r < turns) ⌝ }
-{
-    if !more {
-        return 0;
-    }
-    turns - 1
-}
-
-// Reads until the input or the script is over. A proved loop has to end, so it counts its turns down, from a number that no run uses up.
+// Reads until the input or the script is over.
 fn run(table: &mut [u32], kept: &mut [u8], input: &mut [u8], out: &mut [u8])
     requires { ⌜ (length (now table) ≡ mostWords) × ((length (now kept) ≡ mostKept) × (longestPrinted ≤ length (now out))) ⌝ }
 {
     let mut progress = Progress::START;
-    let mut turns = u64::MAX;
+    let mut turns = MOST_TURNS;
     while 0 < turns {
         let turn = read_piece(table, kept, progress, input, out);
         progress = turn.progress;

@@ -3,3 +3,4 @@ pub mod Looked
 pub mod Parts
 pub mod Pieces
 pub mod Refusals
+pub mod Numbered

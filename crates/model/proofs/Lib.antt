@@ -40,3 +40,6 @@ pub mod OwnCalls
 pub mod LeftOut
 pub mod AcceptedOps
 pub mod Cause
+pub mod Bill
+pub mod BillSteps
+pub mod BillLimits

@@ -25,6 +25,8 @@ pub mod Overtaker
 pub mod OvertakerClaims
 pub mod Cause
 pub mod CauseClaims
+pub mod Bill
+pub mod BillClaims
 pub mod Messages
 pub mod LengthClaims
 pub mod Published

@@ -12,7 +12,7 @@ use Rattle.lists.specs.Parts.{words}
 use Rattle.model.specs.Records.{Value, zeroValue, read, write}
 use Rattle.model.specs.Kinds.{Kind}
 use Rattle.model.specs.Board.{opened}
-use Rattle.model.specs.Runs.{Call, begin, deliver, crash, Step, step}
+use Rattle.model.specs.Runs.{Call, begin, deliver, crash, Seen, Step, step}
 use Rattle.model.specs.Table.{tableWords}
 use Rattle.model.specs.TableCalls.{tableAfter, tableSeen}
 
@@ -205,6 +205,25 @@ stepsFrom kind table [] = []
 stepsFrom kind table (line ∷ lines) =
     let s = stepLine kind table line in
     s .happened ∷ stepsFrom kind (s .table) lines
+
+-- the call that a step made: none where its line is malformed
+unfoldable pub stepCall : Option Step → Option Call
+stepCall none = none
+stepCall (some (step call s)) = some call
+
+-- the calls that steps made, in order, and what was seen at them
+
+unfoldable pub madeBy : List (Option Step) → List Call
+madeBy [] = []
+madeBy (s ∷ steps) = withCall (stepCall s) (madeBy steps)
+
+unfoldable pub withSeen : Option Step → List Seen → List Seen
+withSeen none seen = seen
+withSeen (some (step call s)) seen = s ∷ seen
+
+unfoldable pub seenOf : List (Option Step) → List Seen
+seenOf [] = []
+seenOf (s ∷ steps) = withSeen s (seenOf steps)
 
 -- Whole scripts.
 

@@ -1,11 +1,8 @@
 -- How the code holds what the definitions speak of, and what its functions require of each other.
 use Prim.Native.Nat.{ℕ, _<_}
-use mathlib.Core.Path.{_≡_}
 use mathlib.Core.Bool.{true, false}
 use mathlib.Core.Option.{Option, none, some}
-use Rattle.lists.specs.Functions.{Within}
 use Rattle.model.specs.Overtaker.{Overtaker, refuses, names, Asked}
-use Rattle.script_run.specs.declared.Done.{Done}
 use Rattle.overtaker.specs.declared.Overtaker.{Overtaker as OvertakerStruct}
 use Rattle.overtaker.specs.declared.Asked.{Asked as AskedStruct}
 
@@ -17,10 +14,6 @@ heldOvertaker (names member step) = record { number = 0; member = member; step =
 unfoldable pub heldAsked : Option Asked → AskedStruct
 heldAsked none = record { ok = false; member = 0; ordinal = 0 }
 heldAsked (some a) = record { ok = true; member = a .member; ordinal = a .ordinal }
-
--- a step whose answer is 0 is one of a member's
-abbrev pub Made : Done → Type 0
-Made d = d .outcome .number ≡ 0 → Within 12 (d .line .member)
 
 -- two numbers of ten digits, and a byte behind each
 abbrev pub longestAnswer : ℕ

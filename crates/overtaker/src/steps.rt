@@ -18,6 +18,7 @@ use rules::is_numbered;
 use script::line_length;
 use script::parse_members;
 use script::steps::print_field;
+use script::steps::print_pair;
 use tables::steps::table_size;
 
 // The lines from a place on, for a board of n members.
@@ -82,8 +83,7 @@ fn print_answer(out: &mut [u8], found: Overtaker) -> usize
     if number != 0 {
         return print_field(out, 0, true, number, b'\n');
     }
-    let next = print_field(out, 0, true, found.member, b' ');
-    print_field(out, next, true, found.step, b'\n')
+    print_pair(out, 0, found.member, found.step)
 }
 
 // What the program prints of what it read.

@@ -8,3 +8,4 @@ pub mod Words
 pub mod HostWords
 pub mod Overtakers
 pub mod Causes
+pub mod Bills

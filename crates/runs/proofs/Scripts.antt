@@ -16,16 +16,16 @@ use Rattle.model.specs.Table.{tableSize, tableWords}
 use Rattle.model.specs.TableCalls.{openNumber, openWords, tableRun}
 use Rattle.model.specs.Script.{Line, writes, reads, delivers, crashes, malformed, lineOf, callOf, lineCall, withCall, callsOf}
 use Rattle.model.specs.Script.{stepped, stepLine, stepsFrom, linesOf, firstOf, mostSteps, boardRun, linesRun, scriptRun, printedRun}
-use Rattle.model.specs.Script.{scriptOutput}
+use Rattle.model.specs.Script.{scriptOutput, stepCall, madeBy, withSeen, seenOf}
 use Rattle.laws.proofs.Tables.{length-table}
-use Rattle.runs.specs.Scripts.{stepCall, withSeen, seenOf, StepsRun, ScriptRun}
+use Rattle.runs.specs.Scripts.{StepsRun, ScriptRun}
 use Rattle.runs.proofs.Held.{CallHeld}
 use Rattle.runs.proofs.Words.{zero-held, last-held}
 use Rattle.runs.proofs.Tables.{demand3-on-tables}
 
 -- Lines and their steps, on any table.
 
-stepped-call : (kind : Kind) (table : List ℕ) (call : Option Call) → stepCall (stepped kind table call .happened) ≡ call
+pub stepped-call : (kind : Kind) (table : List ℕ) (call : Option Call) → stepCall (stepped kind table call .happened) ≡ call
 unfolding stepped stepCall
 stepped-call kind table none = refl
 stepped-call kind table (some call) = refl

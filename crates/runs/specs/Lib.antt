@@ -7,3 +7,4 @@ pub mod Scripts
 pub mod HostWords
 pub mod Overtakers
 pub mod Causes
+pub mod Bills

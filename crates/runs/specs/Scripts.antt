@@ -1,30 +1,16 @@
 -- A script's steps as a run of calls: which calls its lines make, and that what is seen at the steps is the run of these calls.
 use Prim.Native.Nat.{ℕ}
 use mathlib.Core.Path.{_≡_}
-use mathlib.Core.List.{List, [], _∷_, _++_, map}
-use mathlib.Core.Option.{Option, none, some}
+use mathlib.Core.List.{List, _++_, map}
+use mathlib.Core.Option.{Option}
 use lib.ListN.{take}
 use Rattle.model.specs.Kinds.{Kind}
 use Rattle.model.specs.Board.{opened}
-use Rattle.model.specs.Runs.{Call, Seen, Step, step}
+use Rattle.model.specs.Runs.{Step}
 use Rattle.model.specs.Demand3.{Demand3}
 use Rattle.model.specs.Table.{tableWords}
 use Rattle.model.specs.TableCalls.{tableRun, tableBoards}
-use Rattle.model.specs.Script.{lineCall, callsOf, mostSteps, Run, ran, boardLine, printedSteps}
-
--- the call that a step made: none where its line is malformed
-unfoldable pub stepCall : Option Step → Option Call
-stepCall none = none
-stepCall (some (step call s)) = some call
-
--- what was seen at the steps that made a call, in order
-unfoldable pub withSeen : Option Step → List Seen → List Seen
-withSeen none seen = seen
-withSeen (some (step call s)) seen = s ∷ seen
-
-unfoldable pub seenOf : List (Option Step) → List Seen
-seenOf [] = []
-seenOf (s ∷ steps) = withSeen s (seenOf steps)
+use Rattle.model.specs.Script.{lineCall, callsOf, stepCall, seenOf, mostSteps, Run, ran, boardLine, printedSteps}
 
 -- The claim about the steps of a script's lines: the k-th step makes the k-th line's call, what is seen at the steps is the run of these
 -- calls

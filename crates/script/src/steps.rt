@@ -4,7 +4,7 @@ ghost use Prim.Native.Nat.{_+_, _%_, _≤_};
 ghost use mathlib.Core.List.{_++_};
 ghost use mathlib.Core.Option.{some};
 ghost use lib.ListN.{length};
-ghost use Rattle.model.specs.Script.{digitZero, lineFeed, digits, field, printedLine, boardLine, refusedLine};
+ghost use Rattle.model.specs.Script.{digitZero, space, lineFeed, digits, field, printedLine, boardLine, refusedLine};
 ghost use Rattle.script.specs.Meaning.{given, Printed};
 
 // How many digits a number has.
@@ -70,6 +70,15 @@ pub fn print_field(out: &mut [u8], at: usize, has: bool, x: u32, end: u8) -> usi
     let next = print_number(out, at, x);
     out[next] = end;
     next + 1
+}
+
+// Two numbers on a line.
+pub fn print_pair(out: &mut [u8], at: usize, x: u32, y: u32) -> usize
+    requires { ⌜ at + length (field (some x) space ++ field (some y) lineFeed) ≤ length (now out) ⌝ }
+    ensures { λ r. ⌜ Printed (now (out .entry)) (now (out .exit)) at (field (some x) space ++ field (some y) lineFeed) r ⌝ }
+{
+    let next = print_field(out, at, true, x, b' ');
+    print_field(out, next, true, y, b'\n')
 }
 
 // The line of a step.

@@ -1,4 +1,4 @@
--- Every example holds, of either program: both sides are computed. Assumes nothing.
+-- Every example holds, of each program: both sides are computed. Assumes nothing.
 use mathlib.Core.Path.{refl}
 use Rattle.lists.specs.Every.{Every}
 use Rattle.lists.proofs.Functions.{_and_}
@@ -39,9 +39,14 @@ use Rattle.model.specs.Overtaker.{forAsked, overtakerFor}
 use Rattle.model.specs.Overtaker.{printedOvertaker, overtakerOutput}
 use Rattle.model.specs.Cause.{without, isAccepted, hasAccepted, acceptedWithout, firstCause, causeIn, unlessRefused, linesCause}
 use Rattle.model.specs.Cause.{scriptCause, cause, causeFor, printedCause, causeOutput}
-use Rattle.script_cases.specs.Examples.{Holds, examples, Answers, questions, lineFeeds, causeQuestions}
+use Rattle.model.specs.Script.{stepCall, madeBy, withSeen, seenOf}
+use Rattle.model.specs.History.{acceptedOf}
+use Rattle.model.specs.Bill.{ofMember, price, prices, tenths, roundedUp, bill, total, acceptedInOrder, billLine, printedBill, billOfRun}
+use Rattle.model.specs.Bill.{billOutput}
+use Rattle.script_cases.specs.Examples.{Holds, examples, Answers, questions, lineFeeds, causeQuestions, Owes, times, bills}
 
 pub every-example : Every Holds examples × Every (Answers overtakerOutput) questions × Every (Answers causeOutput) causeQuestions
+    × Every Owes bills
 unfolding examples questions lineFeeds causeQuestions zeroRow zeroMatrix below matrixBelow comparable larger withCount zeroValue opening
     zeroRecord recordWithin
     isOperation barred becomesStored fieldsNumber kindNumber beginAnswer deliverAnswer crashAnswer idle begun answered check21
@@ -63,7 +68,8 @@ unfolding examples questions lineFeeds causeQuestions zeroRow zeroMatrix below m
     withCall callsOf isAborted abortedOp earlier firstOvertaking overtaking overtakerIn named isCall wellFormed linesOvertaker
     membersOvertaker scriptOvertaker overtaker bothNumbers askedBy forAsked overtakerFor printedOvertaker overtakerOutput
     without isAccepted hasAccepted acceptedWithout firstCause causeIn unlessRefused linesCause scriptCause cause causeFor printedCause
-    causeOutput
+    causeOutput stepCall madeBy withSeen seenOf acceptedOf ofMember price prices tenths roundedUp bill total acceptedInOrder billLine
+    printedBill billOfRun billOutput times bills
 every-example = (
   refl and refl and refl and refl and refl and refl and refl and refl and refl and refl and refl and refl and refl and refl and tt,
   refl and refl and refl and refl and refl and refl and refl and refl and refl and refl and refl and refl and refl and refl and
@@ -72,4 +78,5 @@ every-example = (
   refl and refl and refl and refl and refl and refl and refl and refl and refl and refl and refl and refl and refl and
       refl and refl and refl and refl and refl and refl and refl and refl and refl and refl and refl and refl and refl and refl and
       refl and tt,
+  refl and refl and refl and refl and refl and refl and refl and tt,
 )

@@ -5,6 +5,7 @@ use mathlib.Core.Path.{_≡_}
 use mathlib.Core.List.{List, [], _∷_, _++_}
 use Rattle.model.specs.Kinds.{concur}
 use Rattle.model.specs.Script.{text, lineFeed, scriptOutput}
+use Rattle.model.specs.Bill.{billOutput}
 
 pub record Example : Type 0 where
   pub input : String
@@ -44,6 +45,41 @@ examples =
     -- a member reads its own slot (document 02, (a)), here the only one
     ∷ ("members 1\nwrite 1 9\ndeliver 1\ndeliver 1\ndeliver 1\ndeliver 1\nread 1 1\ndeliver 1\ndeliver 1\ndeliver 1\ndeliver 1"
     prints "board 1\n1 0 1 -\n2 0 2 -\n3 0 3 -\n4 0 4 -\n5 0 0 -\n6 0 1 -\n7 0 2 -\n8 0 3 -\n9 0 4 -\n10 0 0 9\n")
+    ∷ []
+
+-- Bills (document 02, (k)): a script as bytes, and what the bill program prints of it.
+
+pub record Billed : Type 0 where
+  pub script : List ℕ
+  pub output : String
+
+infix 70 _owes_
+abbrev pub _owes_ : List ℕ → String → Billed
+script owes output = record { script = script; output = output }
+
+abbrev pub Owes : Billed → Type 0
+Owes b = billOutput concur (b .script) ≡ text (b .output)
+
+-- a text so many times
+unfoldable pub times : ℕ → String → List ℕ
+times zero s = []
+times (suc k) s = text s ++ times k s
+
+abbrev pub behind100 : String → List ℕ
+behind100 steps = text "members 1\n" ++ (times 100 "write 1 7\ndeliver 1\ndeliver 1\ndeliver 1\ndeliver 1\n" ++ text steps)
+
+unfoldable pub bills : List Billed
+bills =
+    -- refused as the board program refuses it
+    (text "" owes "board refused 17\n")
+    ∷ (text "members 2 \nwrite 1 7\n" owes "board refused 17\n")
+    ∷ (text "members 13\nwrite 1 7\n" owes "board refused 1\n")
+    -- a line for each member, also for 0 cents, and the total
+    ∷ (text "members 1" owes "1 0\n0\n")
+    ∷ (text "members 3\nwrite 1 7\nbid 1\n\ndeliver 1\ndeliver 1\ndeliver 1\n" owes "1 0\n2 0\n3 0\n0\n")
+    -- 100 writes are free, and what is behind them is not: a write costs 35 tenths once the host has accepted it, an own read 4
+    ∷ (behind100 "write 1 8\ndeliver 1\ndeliver 1\ndeliver 1" owes "1 4\n4\n")
+    ∷ (behind100 "read 1 1\ndeliver 1\ndeliver 1\ndeliver 1\ncrash 1\n" owes "1 1\n1\n")
     ∷ []
 
 -- A question about an operation: a script, the number of arguments, the first two, and what is printed.

@@ -6,7 +6,7 @@ use mathlib.Core.List.{List, [], _∷_}
 use mathlib.Core.Option.{Option, none, some}
 use lib.Dec.{eqb}
 use lib.ListN.{length, take}
-use Rattle.lists.specs.Functions.{put}
+use Rattle.lists.specs.Functions.{put, Within}
 use Rattle.lists.specs.Parts.{words}
 use Rattle.model.specs.Records.{zeroValue, read, write}
 use Rattle.model.specs.Runs.{Call, begin, deliver, crash, Seen, Step, step}
@@ -51,6 +51,10 @@ abbrev pub StepHeld : Done → Option Step → Type 0
 StepHeld d none = (d .line .kind ≡ 0) × ((d .outcome .number ≡ 17) × (returnedIn (d .outcome) ≡ none))
 StepHeld d (some (step call s)) = Shows d call s
 
+-- a step whose answer is 0 is one of a member's
+abbrev pub Made : Done → Type 0
+Made d = d .outcome .number ≡ 0 → Within 12 (d .line .member)
+
 -- the events that a kind stands for, none or one: 0 nothing, 1 a first line refused, 2 a board opened, 3 a step
 unfoldable pub eventsOf : ℕ → ℕ → Option Step → List Event
 eventsOf kind number s =
@@ -63,6 +67,9 @@ pub record EventsHeld (e : EventStruct) (l : List Event) : Type 0 where
   pub happened : Option Step
   pub held : StepHeld (e .done) happened
   pub events : l ≡ eventsOf (e .kind) (e .number) happened
+  pub made : Made (e .done)
+  -- a board that was opened has 12 members at most
+  pub size : e .kind ≡ 2 → e .number ≤ 12
 
 -- States.
 

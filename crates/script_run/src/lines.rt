@@ -8,7 +8,7 @@ ghost use lib.ListN.{length, take};
 ghost use Rattle.model.specs.Kinds.{concur};
 ghost use Rattle.model.specs.Script.{stepLine, mostSteps};
 ghost use Rattle.script_run.specs.Feeding.{mostKept, keep, lineRun};
-ghost use Rattle.script_run.specs.Meaning.{StepHeld, Whole, stateOf, Ready, Ran};
+ghost use Rattle.script_run.specs.Meaning.{StepHeld, Made, Whole, stateOf, Ready, Ran};
 use crate::Done;
 use crate::Ended;
 use crate::Event;
@@ -37,6 +37,7 @@ pub fn run_line(table: &mut [u32], line: &[u8]) -> Done
     requires { ⌜ Whole (now table) ⌝ }
     ensures { λ _. ⌜ now (table .exit) ≡ stepLine concur (now (table .entry)) (now (line .entry)) .table ⌝ }
     ensures { λ r. ⌜ StepHeld r (stepLine concur (now (table .entry)) (now (line .entry)) .happened) ⌝ }
+    ensures { λ r. ⌜ Made r ⌝ }
 {
     let read = parse_line(line);
     let kind = read.kind;

@@ -1,5 +1,7 @@
 // Standard input and output for the programs, and what standard error says where one of them fails.
-ghost use Prim.Native.Nat.{_≤_};
+ghost use Prim.Native.Nat.{_-_, _≤_, _<_};
+ghost use mathlib.Core.Path.{_≡_};
+ghost use mathlib.Core.Bool.{cond};
 ghost use lib.ListN.{length};
 use libc::STDIN_FILENO;
 use libc::STDOUT_FILENO;
@@ -35,6 +37,23 @@ pub fn read_some(buffer: &mut [u8]) -> Input
         ok: true,
         length: io::count(got, buffer),
     }
+}
+
+// A proved loop has to end, so that a program which reads until nothing more comes counts its turns down, from this number, which no run
+// uses up.
+pub const MOST_TURNS: u64 = u64::MAX;
+
+// One turn fewer, or none where there is no more to read.
+pub fn turns_left(turns: u64, more: bool) -> u64
+    ensures { λ r. ⌜ (r ≡ cond more (turns - 1) 0) × (0 < turns → r < turns) ⌝ }
+{
+    if !more {
+        return 0;
+    }
+    if turns == 0 {
+        return 0;
+    }
+    turns - 1
 }
 
 // Reads until the input is over or the buffer is full.

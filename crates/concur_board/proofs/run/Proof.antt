@@ -37,10 +37,10 @@ two-back c = c .before .before .before .before
 abbrev read-back : tie.After-slice-known8 Inv-loop μ-loop → tie.After-read-piece Inv-loop μ-loop
 read-back c = two-back (c .before .before .before .before)
 
-abbrev turn : tie.After-read-piece-arg Inv-loop μ-loop → tie.At-loop Inv-loop μ-loop
-turn c = c .before .before
+abbrev turn : tie.After-read-piece-arg Inv-loop μ-loop → tie.In-loop Inv-loop μ-loop
+turn c = c .before
 
-abbrev round : tie.After-read-piece Inv-loop μ-loop → tie.At-loop Inv-loop μ-loop
+abbrev round : tie.After-read-piece Inv-loop μ-loop → tie.In-loop Inv-loop μ-loop
 round c = turn (c .before .before .before .before)
 
 abbrev written : tie.After-write-out-arg Inv-loop μ-loop → tie.After-finish Inv-loop μ-loop
@@ -64,13 +64,13 @@ read-piece-requires : tie.Need-read-piece-requires Inv-loop μ-loop
 read-piece-requires c κs = let i = (c .before .before .before .before .before .loop) .inv in (i .ready, i .room)
 
 loop-less : tie.Need-loop-less Inv-loop μ-loop
-loop-less c = c .turns-left .ensures .1
+loop-less c = c .turns-left .ensures .1 (round (read-back (c .before .before)) .loop-test .taken)
 
 loop-again : tie.Need-loop-again Inv-loop μ-loop
 loop-again c =
     let back = read-back (c .before .before) in
     let r = back .read-piece in
-    let i = round back .loop .inv in
+    let i = round back .before .loop .inv in
     let same = r .kept .1 .1 .1 .1 .0 in
     record {
       ready = r .ensures .0;

@@ -15,7 +15,7 @@ use Rattle.script_run.proofs.Held.{step-whole}
 use Rattle.overtaker.specs.Search.{searchOf, searchStart, linesSearched}
 use Rattle.overtaker.specs.declared.search.Search.{Search}
 use Rattle.overtaker.proofs.NextLine.{NextLine, next-line, ahead, first-ahead, skips-line, runs-line, none-ahead}
-use Rattle.overtaker.proofs.LineTaken.{line-made, held-counts, search-ends, search-goes}
+use Rattle.overtaker.proofs.LineTaken.{held-counts, search-ends, search-goes}
 use Rattle.overtaker.proofs.lines.search_lines.Statement.{statement}
 use Rattle.overtaker.proofs.lines.search_lines.Tie as tie
 
@@ -160,7 +160,7 @@ returns c =
     ∙ sym (known here .same
     ∙ ap (linesSearched (a .member) (a .ordinal) (l .loop .table) s) (ran-here (tested run))
     ∙ search-ends (a .member) (a .ordinal) (line here) (behind here) (l .loop .table) s (run .run-line .result)
-    (run .run-line .ensures .1) (c .before .if2 .taken))
+    (run .run-line .ensures .1 .0) (c .before .if2 .taken))
 
 step-requires : tie.Need-step-requires Inv-loop μ-loop
 step-requires c κs =
@@ -170,7 +170,7 @@ step-requires c κs =
       i .begun,
       (
         omega (arith, i .steps, i .count, i .short, round here .loop-test .taken),
-        line-made (round here .before .loop .table) (line here) (run .run-line .result) (i .whole) (run .run-line .ensures .1),
+        run .run-line .ensures .1 .1,
       ),
     )
 
@@ -187,7 +187,7 @@ loop-again-2 c =
     let r = c .step .result in
     let s = searchOf (l .loop .search) in
     let happened = stepLine concur (l .loop .table) (line here) .happened in
-    let counts = held-counts (a .member) (a .ordinal) (l .loop .search) r (run .run-line .result) happened (run .run-line .ensures .1)
+    let counts = held-counts (a .member) (a .ordinal) (l .loop .search) r (run .run-line .result) happened (run .run-line .ensures .1 .0)
     (c .before .if2 .left) (c .step .ensures) in
     record {
       whole = rw (run .run-line .ensures .0) (step-whole (l .loop .table) _ (i .whole));
@@ -199,7 +199,7 @@ loop-again-2 c =
       same = i .same
           ∙ ap (linesSearched (a .member) (a .ordinal) (l .loop .table) s) (ran-here (tested run))
           ∙ search-goes (a .member) (a .ordinal) (line here) (behind here) (l .loop .table) s (run .run-line .result)
-          (run .run-line .ensures .1) (c .before .if2 .left) (run .run-line .last .0) (run .run-line .ensures .0) (searchOf r)
+          (run .run-line .ensures .1 .0) (c .before .if2 .left) (run .run-line .last .0) (run .run-line .ensures .0) (searchOf r)
           (c .step .ensures);
     }
 

@@ -1,15 +1,14 @@
 -- `print_answer` meets its contract: a refusal's number is one field, a member and a step are two, and these stand at the front.
 use borrow.Author.Needs.{needs}
-use Prim.Native.Nat.{_≤_, _+_}
-use mathlib.Core.Path.{sym, ap, _∙_}
+use Prim.Native.Nat.{ℕ, _≤_, _+_}
+use mathlib.Core.Path.{sym, _∙_}
 use mathlib.Core.Bool.{true}
-use mathlib.Core.List.{_++_}
+use mathlib.Core.List.{List, _++_}
 use mathlib.Core.Option.{some}
 use native.Mathlib.Omega.{arith}
-use lib.ListN.{length}
+use lib.ListN.{length, length-append}
 use Rattle.model.specs.Script.{space, lineFeed, field}
 use Rattle.script.proofs.Printing.{field-short}
-use Rattle.script_run.specs.Meaning.{Wrote}
 use Rattle.script_run.proofs.Held.{wrote, wrote-front}
 use Rattle.overtaker.proofs.Answers.{refusal-printed, name-printed}
 use Rattle.overtaker.proofs.steps.print_answer.Statement.{statement}
@@ -26,19 +25,18 @@ naming c = c .before .before
 number-short : (c : tie.Then1) → length (field (some (refusing c .args .found .number)) lineFeed) ≤ 11
 number-short c = field-short true (refusing c .args .found .number) lineFeed (search needs)
 
-member-short : (c : tie.Else1) → length (field (some (naming c .args .found .member)) space) ≤ 11
-member-short c = field-short true (naming c .args .found .member) space (search needs)
+-- the text of a member and a step, and how long it is
+abbrev name : tie.Else1 → List ℕ
+name c = let f = naming c .args .found in field (some (f .member)) space ++ field (some (f .step)) lineFeed
 
-step-short : (c : tie.Else1) → length (field (some (naming c .args .found .step)) lineFeed) ≤ 11
-step-short c = field-short true (naming c .args .found .step) lineFeed (search needs)
-
--- the member's number was written
-abbrev named : tie.After-print-field2 → tie.Else1
-named c = c .before .before
-
-member-wrote : (c : tie.After-print-field2) → let a = naming (named c) .args in
-    Wrote (a .out .now) (c .print-field2 .last .0) 0 (field (some (a .found .member)) space) (c .print-field2 .result)
-member-wrote c = wrote (c .print-field2 .ensures) (omega (arith, member-short (named c), naming (named c) .pre))
+name-short : (c : tie.Else1) → length (name c) ≤ 22
+name-short c =
+    let f = naming c .args .found in
+    simp length-append (omega (
+      arith,
+      simp length-append at (field-short true (f .member) space (search needs)),
+      simp length-append at (field-short true (f .step) lineFeed (search needs)),
+    ))
 
 -- The needs.
 
@@ -53,31 +51,17 @@ returns c =
     let w = wrote (done .print-field .ensures) (omega (arith, number-short tested, refusing tested .pre)) in
     (w .room, λ x n e. wrote-front w (omega arith) ∙ sym (refusal-printed x (a .found) n e (tested .if1 .taken)))
 
-print-field-requires-2 : tie.Need-print-field-requires-2
-print-field-requires-2 c κs = omega (arith, member-short (c .before), naming (c .before) .pre)
-
-print-field-requires-3 : tie.Need-print-field-requires-3
-print-field-requires-3 c κs =
-    let first = c .before .before .before in
-    let asked = named first in
-    let p = first .print-field2 in
-    omega (arith, step-short asked, member-short asked, naming asked .pre, p .ensures .behind, p .kept .0)
+print-pair-requires : tie.Need-print-pair-requires
+print-pair-requires c κs = omega (arith, name-short (c .before), naming (c .before) .pre)
 
 returns-2 : tie.Need-returns-2
 returns-2 c =
     let done = c .before .before in
-    let first = done .before .before .before .before in
-    let asked = named first in
-    let a = naming asked .args in
-    let p = first .print-field2 in
-    let w = wrote (done .print-field3 .ensures)
-    (omega (arith, step-short asked, member-short asked, naming asked .pre, p .ensures .behind, p .kept .0)) in
-    let both = wrote-front w (member-wrote first .room)
-    ∙ ap (λ t. t ++ field (some (a .found .step)) lineFeed) (wrote-front (member-wrote first) (omega arith)) in
-    (w .room, λ x n e. both ∙ sym (name-printed x (a .found) n e (search needs)))
+    let asked = done .before .before in
+    let w = wrote (done .print-pair .ensures) (omega (arith, name-short asked, naming asked .pre)) in
+    (w .room, λ x n e. wrote-front w (omega arith) ∙ sym (name-printed x (naming asked .args .found) n e (search needs)))
 
 pub print-answer-spec : {M : Type 1} → statement M
 print-answer-spec =
     tie.close
-    (tie.spec
-    print-field-requires (λ c. search needs) returns print-field-requires-2 print-field-requires-3 (λ c. search needs) returns-2)
+    (tie.spec print-field-requires (λ c. search needs) returns print-pair-requires (λ c. search needs) returns-2)

@@ -22,6 +22,7 @@ use Rattle.script_run.specs.Feeding.{opens, ended, firstRun}
 use Rattle.script_run.specs.Meaning.{eventsOf}
 use Rattle.script_run.proofs.Held.{whole-words, opened-words}
 use Rattle.script_run.proofs.States.{first-none, first-outside, first-inside, refused-ran, ended-ran}
+use Rattle.script_run.proofs.Made.{none-made}
 use Rattle.script_run.proofs.first.run_first.Statement.{statement}
 use Rattle.script_run.proofs.first.run_first.Tie as tie
 
@@ -121,7 +122,13 @@ returns-3 c =
     ended-ran (a .p) (a .table .now) (a .kept .now) (s .pre) (firstRun concur (table s) (read s)) _ 1 (known .result) words
     (ap length (opens-words done) ∙ length-table n (opened n) ∙ sym (known .ensures .0)) (known .ensures .1)
     (rw (opens-words done) (whole-words n (opened n) (inside-low 12 n (within else2)) (inside-high 12 n (within else2))))
-    (opens n) e refl (record { happened = none; held = c .no-step .ensures; events = refl })
+    (opens n) e refl (record {
+      happened = none;
+      held = c .no-step .ensures;
+      events = refl;
+      made = none-made (c .no-step .result) (c .no-step .ensures);
+      size = λ z. inside-high 12 n (within else2);
+    })
 
 pub run-first-spec : {M : Type 1} → statement M
 run-first-spec =

@@ -71,7 +71,7 @@ returns-2 c =
     let kept : Whole (r .last .0) = rw (r .ensures .0) (step-whole (lent s) (line s) (whole tested)) in
     ended-ran (a .p) (a .table .now) (a .kept .now) (s .pre .0) (lineRun concur (stateOf (a .p) (a .table .now) (a .kept .now))) _
     (a .p .step + 1) (a .p .size) (r .last .0) (r .kept .0 ∙ lent-long s) (s .pre .0 .size) kept (steps (a .p .step) happened) e refl
-    (record { happened = happened; held = r .ensures .1; events = refl })
+    (record { happened = happened; held = r .ensures .1 .0; events = refl; made = r .ensures .1 .1; size = λ e. absurd (omega arith) })
 
 pub end-line-spec : {M : Type 1} → statement M
 end-line-spec =

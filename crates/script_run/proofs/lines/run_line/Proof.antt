@@ -7,8 +7,11 @@ use native.Mathlib.Omega.{arith}
 use Rattle.model.specs.Kinds.{concur}
 use Rattle.model.specs.Runs.{Call}
 use Rattle.model.specs.TableCalls.{tableAfter}
-use Rattle.script_run.specs.Meaning.{callBy}
+use Rattle.model.specs.Script.{stepLine}
+use Rattle.script_run.specs.Meaning.{callBy, StepHeld}
+use Rattle.script_run.specs.declared.Done.{Done}
 use Rattle.script_run.proofs.Held.{whole-after, step-malformed, step-made, call-shown}
+use Rattle.script_run.proofs.Made.{none-made, line-made}
 use Rattle.script_run.proofs.lines.run_line.Statement.{statement}
 use Rattle.script_run.proofs.lines.run_line.Tie as tie
 
@@ -33,7 +36,7 @@ returns c =
     let read = c .before .before in
     let a = start read .args in
     let e = step-malformed (a .table .now) (a .line .now) (read .parse-line .result) (read .parse-line .ensures) (c .before .if1 .taken) in
-    (ap (λ s. s .table) (sym e), rw e (c .no-step .ensures))
+    (ap (λ s. s .table) (sym e), (rw e (c .no-step .ensures), none-made (c .no-step .result) (c .no-step .ensures)))
 
 phase-of-requires : tie.Need-phase-of-requires
 phase-of-requires c κs =
@@ -54,7 +57,9 @@ returns-2 c =
     let shown =
     call-shown (a .table .now) r (call read) (m .result) (m .last .0) (c .phase-of .result) some refl (m .ensures .0) (m .ensures .1 .0)
     (left made) (c .phase-of .ensures) in
-    (left made ∙ ap (λ s. s .table) (sym e), rw e shown)
+    let d : Done = record { line = r; outcome = m .result; phase = c .phase-of .result } in
+    let held : StepHeld d (stepLine concur (a .table .now) (a .line .now) .happened) = rw e shown in
+    (left made ∙ ap (λ s. s .table) (sym e), (held, line-made (a .table .now) (a .line .now) d (start read .pre) held))
 
 pub run-line-spec : {M : Type 1} → statement M
 run-line-spec =

@@ -5,9 +5,9 @@ use mathlib.Core.Path.{_≡_, sym, _∙_}
 use mathlib.Core.Bool.{true}
 use lib.ListN.{length, getD}
 use borrow.Author.Tests.{not-true, not-false}
+use Rattle.lists.proofs.Numbered.{number-read}
 use Rattle.overtaker.specs.Meaning.{heldOvertaker}
 use Rattle.overtaker.specs.Search.{Search, searchOf, searchOwn}
-use Rattle.overtaker.proofs.Slots.{slot-read}
 use Rattle.overtaker.proofs.Tests.{submit-own, submit-idle, submit-elsewhere, submit-later, submit-first}
 use Rattle.overtaker.proofs.search.Search.submit.Statement.{statement}
 use Rattle.overtaker.proofs.search.Search.submit.Tie as tie
@@ -22,7 +22,7 @@ slot : (s : tie.Start) → getD (s .args .t1 .slots) (s .args .by - 1) 0 ≡ hel
 unfolding searchOf
 slot s =
     let long : length (s .args .t1 .slots) ≡ 12 = search needs in
-    slot-read (s .args .t1 .slots) long (s .args .by) (s .pre)
+    number-read (s .args .t1 .slots) 12 long (s .args .by) (s .pre)
 
 abbrev another : tie.Else1 → tie.Start
 another c = c .before .before
