@@ -19,9 +19,9 @@ use Rattle.model.specs.RecordWords.{valueOf}
 use Rattle.model.specs.Runs.{Call, begin}
 use Rattle.model.specs.Table.{valueSize}
 use Rattle.model.specs.TableCalls.{callNumber, tableAnswer, tableAfter, tableReturns}
-use Rattle.member.specs.Results.{returnedIn}
-use Rattle.member.specs.declared.Outcome.{Outcome}
-use Rattle.board.specs.Needs.{Answered}
+use Rattle.member_block.specs.Results.{returnedIn}
+use Rattle.member_block.specs.declared.Outcome.{Outcome}
+use Rattle.table_calls.specs.Needs.{Answered}
 use Rattle.board.specs.Interface.{answerBeside, afterBeside, Beside, returnedSize, returnedWords, returnedAfter}
 use Rattle.board.proofs.Answers.{call-number, call-table}
 

@@ -9,7 +9,6 @@ ghost use Rattle.model.specs.Table.{valueSize};
 ghost use Rattle.model.specs.TableCalls.{openNumber, openWords, tableAnswer, tableAfter};
 ghost use Rattle.board.specs.Interface.{wordsFor, answerBeside, afterBeside, returnedSize, returnedAfter};
 use crate::auction;
-use crate::calls::deliver_on;
 use crate::crash;
 use crate::kinds::begin_beside;
 use crate::open;
@@ -19,6 +18,7 @@ use rules::AUCTION_MEMBERS;
 use rules::LIMIT;
 use rules::MOST_MEMBERS;
 use rules::is_numbered;
+use table_calls::steps::deliver_on;
 use tables::check::table_number;
 use tables::steps::table_size;
 

@@ -8,22 +8,20 @@ ghost use Rattle.model.specs.Records.{zeroValue};
 ghost use Rattle.model.specs.RecordWords.{valueOf};
 ghost use Rattle.model.specs.Runs.{begin as beginCall, deliver as deliverCall, crash as crashCall};
 ghost use Rattle.model.specs.TableCalls.{openNumber, openWords, boardIn, tableAnswer, tableAfter, tableReturns, tableBoard};
-ghost use Rattle.member.specs.Results.{returnedIn};
+ghost use Rattle.member_block.specs.Results.{returnedIn};
 
 pub mod auction;
-mod calls;
 mod interface;
 mod kinds;
-mod phases;
 pub mod steps;
 
-use calls::crash_on;
-use calls::deliver_on;
 use kinds::begin_by;
 use kinds::open_by;
-use member::Outcome;
+use member_block::Outcome;
 use rules::LIMIT;
 use rules::MOST_MEMBERS;
+use table_calls::steps::crash_on;
+use table_calls::steps::deliver_on;
 use tables::check::table_number;
 
 // Opening, on a table whose old words are not looked at.

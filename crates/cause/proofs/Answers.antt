@@ -17,8 +17,9 @@ use Rattle.model.specs.Cause.{causeFor, printedCause}
 use Rattle.script.specs.Meaning.{heldNumber}
 use Rattle.script.specs.declared.Number.{Number}
 use Rattle.script.proofs.Lines.{first-line, no-line}
-use Rattle.overtaker.specs.Meaning.{heldOvertaker, Numbered as NumberedName}
-use Rattle.overtaker.specs.declared.Overtaker.{Overtaker as OvertakerStruct}
+use Rattle.overtaker_search.specs.Meaning.{heldOvertaker}
+use Rattle.overtaker.specs.Meaning.{Numbered as NumberedName}
+use Rattle.overtaker_search.specs.declared.Overtaker.{Overtaker as OvertakerStruct}
 use Rattle.overtaker.proofs.Answers.{no-lines, by-first, first-malformed, first-named, members-numbered, overtaker-numbered}
 use Rattle.overtaker.proofs.NextLine.{no-more}
 use Rattle.cause.specs.Meaning.{stepOf, heldCause, Named, Numbered}

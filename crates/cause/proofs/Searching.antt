@@ -27,7 +27,7 @@ use Rattle.model.specs.CauseClaims.{OfAnother}
 use Rattle.model.proofs.AcceptedOps.{Told, accepts, aborts}
 use Rattle.runs.proofs.Causes.{formed-without, accepted-or-named}
 use Rattle.script.specs.Meaning.{heldLine}
-use Rattle.overtaker.specs.Meaning.{heldOvertaker}
+use Rattle.overtaker_search.specs.Meaning.{heldOvertaker}
 use Rattle.overtaker.proofs.Answers.{lines-malformed, no-size}
 use Rattle.overtaker.proofs.NextLine.{NextLine, no-more}
 use Rattle.cause.specs.Meaning.{stepOf, Named}

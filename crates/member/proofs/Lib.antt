@@ -1,4 +1,1 @@
-pub mod Sizes
 pub mod Refusals
-pub mod InOrder
-pub mod Laws

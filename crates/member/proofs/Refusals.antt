@@ -1,5 +1,5 @@
 -- What a call's number says: where it is 0, what its step asks; and the words that the call then leaves.
-use Prim.Native.Nat.{ℕ, _<_, _^_}
+use Prim.Native.Nat.{ℕ}
 use mathlib.Core.Path.{_≡_, refl, sym, ap, _∙_}
 use mathlib.Core.Bool.{Bool, true, false, cond, not, _&&_, _||_}
 use mathlib.Core.List.{List}
@@ -12,15 +12,15 @@ use Rattle.lists.specs.Parts.{words}
 use Rattle.lists.proofs.Functions.{first, second, neither, inside-low, inside-high}
 use Rattle.lists.proofs.Refusals.{no-ground, no-failure, no-number, number-refuses, number-passes, regrouped, becomes}
 use Rattle.model.specs.Records.{Rec}
-use Rattle.model.specs.Kinds.{Kind, barred}
+use Rattle.model.specs.Kinds.{barred}
 use Rattle.model.specs.Member.{Member}
 use Rattle.model.specs.Table.{blockSize, memberOf, memberWords, soundRecord, soundOperation, soundMember, blockNumber}
-use Rattle.model.specs.Numbers.{orElse, beginAnswer}
+use Rattle.model.specs.Numbers.{orElse}
 use Rattle.model.specs.Halves.{unlessRefused, fitRecord, lentNumber, memberNumber, notWaiting, replyNumber, outcomeNumber}
 use Rattle.model.specs.Halves.{memberCrashNumber}
-use Rattle.model.proofs.Answers.{begin-taken}
 use Rattle.laws.proofs.Blocks.{member-back}
-use Rattle.member.specs.Needs.{Block, Begins, Running}
+use Rattle.member_block.specs.Needs.{Block, Running}
+use Rattle.member_block.proofs.Begins.{within}
 
 -- A call's number that also makes the test of number 10: refused by it, or answered by the grounds behind it.
 pub refused-waiting : {number : ℕ} (a : ℕ) (t : Bool) (b : ℕ) → number ≡ orElse a (cond t 10 0) → (number ≡ 0 → ⊥)
@@ -30,9 +30,6 @@ refused-waiting a t b e h = number-refuses b e h ∙ regrouped a t 10 b (omega a
 pub passed-waiting : {number r : ℕ} (a : ℕ) (t : Bool) (b : ℕ) → number ≡ orElse a (cond t 10 0) → number ≡ 0 → r ≡ b
     → r ≡ orElse a (cond t 10 b)
 passed-waiting a t b e z h = number-passes e z h ∙ regrouped a t 10 b (omega arith)
-
-numbered : (n k : ℕ) → inside n k ≡ true → Within n k
-numbered n k h = record { least = inside-low n k h; most = inside-high n k h }
 
 -- 1, 2, 3: a sound block of a board of n
 pub record Lent (n i : ℕ) (l : List ℕ) : Type 0 where
@@ -62,7 +59,7 @@ unfolding memberNumber
 good n i l h =
     let g = no-number (lentNumber n i l) h in
     let b = lent n i l (g .0) in
-    record { block = b .block; sound = b .sound; member = numbered n i (no-failure (inside n i) (omega arith) (g .1) .0) }
+    record { block = b .block; sound = b .sound; member = within n i (no-failure (inside n i) (omega arith) (g .1) .0) }
 
 -- a sound member in phase 1 to 5 runs an operation on a slot
 fourth-and-sixth : (a b c d e f g h : Bool) → (a && b && c && d && e && f && g && h) ≡ true → (d ≡ true) × (f ≡ true)
@@ -86,14 +83,6 @@ running : (n i : ℕ) (l : List ℕ) → Good n i l → inside 5 (memberOf n (wo
 running n i l g h = record { block = g .block; slot = sound-slot n i (memberOf n (words l)) (g .sound) h }
 
 -- What each call's step asks.
-
-pub begins : (kind : Kind) → kind .limit < 2 ^ 32 → (n i : ℕ) (l : List ℕ) (r t : ℕ) → Block n l
-    → (let m = memberOf n (words l) in beginAnswer kind n (m .phase) (m .crashed) (m .own r) i r t) ≡ 0 → Begins n l r
-begins kind small n i l r t b h =
-    let m = memberOf n (words l) in
-    let k = begin-taken kind n (m .phase) (m .crashed) (m .own r) i r t h in
-    let spare = k .room in
-    record { block = b; slot = numbered n r (k .slot); room = omega arith }
 
 -- taking a message, in phase p
 waits : (p : ℕ) (m : Member) → notWaiting p m ≡ false → m .phase ≡ p

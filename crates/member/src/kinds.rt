@@ -5,7 +5,7 @@ ghost use Rattle.model.specs.Kinds.{Kind};
 ghost use Rattle.model.specs.RecordWords.{valueOf};
 ghost use Rattle.model.specs.Halves.{memberBeginNumber, memberBeginWords};
 use crate::numbers::begin_number;
-use crate::steps;
+use member_block::steps;
 
 pub fn begin_by(
     block: &mut [u32],

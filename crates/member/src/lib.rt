@@ -4,25 +4,21 @@ ghost use mathlib.Core.Path.{_≡_};
 ghost use Rattle.lists.specs.Parts.{words};
 ghost use Rattle.model.specs.Kinds.{concur};
 ghost use mathlib.Core.Bool.{false};
-ghost use mathlib.Core.Option.{none};
 ghost use Rattle.model.specs.Records.{zeroValue};
 ghost use Rattle.model.specs.RecordWords.{valueOf};
 ghost use Rattle.model.specs.Halves.{memberBeginNumber, memberBeginWords, replyNumber, replyPairs, replyWords};
 ghost use Rattle.model.specs.Pairs.{mostPairs};
 ghost use Rattle.model.specs.Halves.{outcomeNumber, outcomeWords, outcomeReturns, memberCrashNumber, memberCrashWords};
 ghost use Rattle.records.specs.Meaning.{recordFor};
-ghost use Rattle.member.specs.Results.{returnedIn};
+ghost use Rattle.member_block.specs.Results.{returnedIn};
 
 pub mod auction;
-mod halts;
 mod kinds;
-mod layout;
-mod marks;
 mod numbers;
-mod parts;
-pub mod steps;
 
 use kinds::begin_by;
+pub use member_block::Outcome;
+use member_block::steps;
 use numbers::crash_number;
 use numbers::outcome_number;
 use numbers::reply_number;
@@ -34,26 +30,6 @@ use rules::MOST_MEMBERS;
 pub struct Replied {
     pub number: u32,
     pub pairs: u32,
-}
-
-// What taking an outcome hands back: its number, and whether a value is returned, and which; zero where there is none.
-pub struct Outcome {
-    pub number: u32,
-    pub returned: bool,
-    pub value: [u32; 8],
-}
-
-impl Outcome {
-    // A number, and no value.
-    pub fn nothing(number: u32) -> Outcome
-        ensures { λ r. ⌜ (r .number ≡ number) × ((returnedIn r ≡ none) × (valueOf (words (r .value)) ≡ zeroValue)) ⌝ }
-    {
-        Outcome {
-            number,
-            returned: false,
-            value: [0; 8],
-        }
-    }
 }
 
 pub fn begin(

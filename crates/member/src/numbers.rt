@@ -7,13 +7,13 @@ ghost use Rattle.model.specs.Numbers.{orElse};
 ghost use Rattle.model.specs.Halves.{notWaiting, lentNumber, memberNumber, memberBeginNumber, replyNumber, outcomeNumber};
 ghost use Rattle.model.specs.Halves.{memberCrashNumber};
 ghost use Rattle.records.specs.Meaning.{recordFor};
-ghost use Rattle.member.specs.Needs.{Begins};
-use crate::layout::CRASHED_AT;
-use crate::layout::PHASE_AT;
-use crate::layout::layout;
-use crate::steps::begin_answer_on;
-use crate::steps::crash_answer_on;
-use crate::steps::sound_block;
+ghost use Rattle.member_block.specs.Needs.{Begins};
+use member_block::steps::CRASHED_AT;
+use member_block::steps::PHASE_AT;
+use member_block::steps::begin_answer_on;
+use member_block::steps::block_size;
+use member_block::steps::crash_answer_on;
+use member_block::steps::sound_block;
 use records::Record;
 use rules::MOST_MEMBERS;
 use rules::is_numbered;
@@ -26,8 +26,7 @@ fn lent_number(block: &[u32], n: u32, member: u32) -> u32
     if !is_numbered(n, MOST_MEMBERS) {
         return 1;
     }
-    let at = layout(n as usize);
-    let size = at.size;
+    let size = block_size(n as usize);
     if block.len() != size {
         return 2;
     }

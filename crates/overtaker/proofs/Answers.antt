@@ -16,8 +16,9 @@ use Rattle.model.specs.Script.{space, lineFeed, before, numberOf, firstOf, line
 use Rattle.model.specs.Overtaker.{Overtaker, refuses, names, named, wellFormed, linesOvertaker, membersOvertaker, scriptOvertaker}
 use Rattle.model.specs.Overtaker.{mostBytes, overtaker, overtakerIn, Asked, bothNumbers, askedBy, forAsked, overtakerFor, printedOvertaker}
 use Rattle.script.proofs.Lines.{first-line, no-line}
-use Rattle.overtaker.specs.Meaning.{heldOvertaker, heldAsked, Numbered}
-use Rattle.overtaker.specs.declared.Overtaker.{Overtaker as OvertakerStruct}
+use Rattle.overtaker_search.specs.Meaning.{heldOvertaker}
+use Rattle.overtaker.specs.Meaning.{heldAsked, Numbered}
+use Rattle.overtaker_search.specs.declared.Overtaker.{Overtaker as OvertakerStruct}
 use Rattle.overtaker.specs.declared.Asked.{Asked as AskedStruct}
 
 module _ (i k : ℕ) where

@@ -1,6 +1,2 @@
-pub mod Tests
 pub mod NextLine
-pub mod LineTaken
-pub mod Stages
-pub mod Searched
 pub mod Answers

@@ -3,13 +3,7 @@ use Prim.Native.Nat.{ℕ, _<_}
 use mathlib.Core.Bool.{true, false}
 use mathlib.Core.Option.{Option, none, some}
 use Rattle.model.specs.Overtaker.{Overtaker, refuses, names, Asked}
-use Rattle.overtaker.specs.declared.Overtaker.{Overtaker as OvertakerStruct}
 use Rattle.overtaker.specs.declared.Asked.{Asked as AskedStruct}
-
--- number 0 where somebody is named
-unfoldable pub heldOvertaker : Overtaker → OvertakerStruct
-heldOvertaker (refuses number) = record { number = number; member = 0; step = 0 }
-heldOvertaker (names member step) = record { number = 0; member = member; step = step }
 
 unfoldable pub heldAsked : Option Asked → AskedStruct
 heldAsked none = record { ok = false; member = 0; ordinal = 0 }

@@ -1,34 +1,16 @@
 // Who overtook an operation: a script's bytes and an operation in, the first submit that overtook it or a refusal's number out.
 ghost use mathlib.Core.Path.{_≡_};
-ghost use Rattle.model.specs.Overtaker.{overtaker, refuses, askedBy};
-ghost use Rattle.overtaker.specs.Meaning.{heldOvertaker, heldAsked};
+ghost use Rattle.model.specs.Overtaker.{overtaker, askedBy};
+ghost use Rattle.overtaker_search.specs.Meaning.{heldOvertaker};
+ghost use Rattle.overtaker.specs.Meaning.{heldAsked};
 
 mod lines;
-mod search;
 pub mod steps;
 
+pub use overtaker_search::Overtaker;
 use script::parse_number;
 use script_run::MOST_WORDS;
 use steps::find_on;
-
-// The submit that overtook the operation: its member, and the step at which the host took it. Where a number refuses, these are 0.
-pub struct Overtaker {
-    pub number: u32,
-    pub member: u32,
-    pub step: u32,
-}
-
-impl Overtaker {
-    pub fn refused(number: u32) -> Overtaker
-        ensures { λ r. ⌜ r ≡ heldOvertaker (refuses number) ⌝ }
-    {
-        Overtaker {
-            number,
-            member: 0,
-            step: 0,
-        }
-    }
-}
 
 // The operation that the arguments ask for: the member's ordinal-th. Or they are not two numbers: then these are 0.
 pub struct Asked {

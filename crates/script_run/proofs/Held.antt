@@ -26,8 +26,8 @@ use Rattle.laws.proofs.Records.{valueOf-same}
 use Rattle.laws.proofs.Tables.{length-table, table-zero}
 use Rattle.runs.proofs.Words.{last-held}
 use Rattle.records.proofs.Laws.{zero-value}
-use Rattle.member.specs.declared.Outcome.{Outcome}
-use Rattle.member.specs.Results.{returnedIn}
+use Rattle.member_block.specs.declared.Outcome.{Outcome}
+use Rattle.member_block.specs.Results.{returnedIn}
 use Rattle.script.specs.declared.Line.{Line as LineStruct}
 use Rattle.script.specs.Meaning.{heldLine, given, Printed}
 use Rattle.script_run.specs.Feeding.{Event, printedEvent, printedEvents}

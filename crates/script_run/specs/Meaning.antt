@@ -12,7 +12,7 @@ use Rattle.model.specs.Records.{zeroValue, read, write}
 use Rattle.model.specs.Runs.{Call, begin, deliver, crash, Seen, Step, step}
 use Rattle.model.specs.Kinds.{concur}
 use Rattle.model.specs.Script.{firstOf, mostSteps}
-use Rattle.member.specs.Results.{returnedIn}
+use Rattle.member_block.specs.Results.{returnedIn}
 use Rattle.script.specs.Meaning.{Printed}
 use Rattle.script.specs.declared.Line.{Line as LineStruct}
 use Rattle.tables.specs.Needs.{Table}

@@ -2,12 +2,12 @@
 ghost use mathlib.Core.Path.{_≡_};
 ghost use Rattle.model.specs.Kinds.{concur};
 ghost use Rattle.model.specs.TableCalls.{tableAnswer, tableAfter, tableReturns, phaseWords};
-ghost use Rattle.member.specs.Results.{returnedIn};
+ghost use Rattle.member_block.specs.Results.{returnedIn};
 ghost use Rattle.script_run.specs.Meaning.{callFor, Whole};
 use board::begin;
 use board::crash;
 use board::deliver;
-use member::Outcome;
+use member_block::Outcome;
 use rules::READ;
 use rules::WRITE;
 use rules::is_numbered;

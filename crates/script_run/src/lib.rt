@@ -4,7 +4,7 @@ ghost use mathlib.Core.Path.{_≡_};
 ghost use Prim.Native.Nat.{ℕ};
 ghost use Rattle.script_run.specs.Feeding.{over};
 ghost use Rattle.script_run.specs.Meaning.{stateOf};
-use member::Outcome;
+use member_block::Outcome;
 use script::LONGEST_LINE;
 use script::Line;
 

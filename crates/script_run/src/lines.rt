@@ -17,7 +17,7 @@ use crate::Progress;
 use crate::calls::make_call;
 use crate::calls::phase_of;
 use crate::first::run_first;
-use member::Outcome;
+use member_block::Outcome;
 use script::Line;
 use script::parse_line;
 

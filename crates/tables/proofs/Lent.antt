@@ -14,7 +14,7 @@ use Rattle.model.specs.Board.{Board, withMember}
 use Rattle.model.specs.Table.{blockSize, blockAt, hostAt, hostSize, tableSize, memberOf, hostOf, storedRecordsOf, boardOf, tableWords}
 use Rattle.model.specs.Table.{soundHost}
 use Rattle.laws.proofs.Tables.{board-member-part, board-member-put, board-host-part, board-stored-part, board-host-put, table-back}
-use Rattle.member.specs.Needs.{Block, Running}
+use Rattle.member_block.specs.Needs.{Block, Running}
 use Rattle.host.specs.Needs.{Entries, Slot}
 use Rattle.tables.specs.Needs.{Table, Left, BlockPlace, HostPlace}
 

@@ -8,8 +8,8 @@ use crate::steps::host_at;
 use crate::steps::table_size;
 use host::steps::host_size;
 use host::steps::sound_entries;
-use member::steps::block_size;
-use member::steps::sound_block;
+use member_block::steps::block_size;
+use member_block::steps::sound_block;
 use rules::MOST_MEMBERS;
 use rules::is_numbered;
 

@@ -9,7 +9,7 @@ ghost use Rattle.lists.specs.Functions.{Within};
 ghost use Rattle.tables.specs.Needs.{Table, Left, BlockPlace, HostPlace};
 use host::steps::host_size;
 use host::steps::open;
-use member::steps::block_size;
+use member_block::steps::block_size;
 use records::steps::clear;
 
 const BLOCKS_AT: usize = 1;

@@ -3,7 +3,7 @@ use borrow.Author.Needs.{needs}
 use mathlib.Core.Path.{_∙_, sym}
 use Rattle.lists.specs.Parts.{words}
 use Rattle.model.specs.Kinds.{concur}
-use Rattle.board.specs.Needs.{Sound}
+use Rattle.table_calls.specs.Needs.{Sound}
 use Rattle.board.proofs.Answers.{call-done, call-returns, good, of-deliver, own-call, own-returns, some-words}
 use Rattle.board.proofs.deliver.Statement.{statement}
 use Rattle.board.proofs.deliver.Tie as tie

@@ -3,7 +3,7 @@ use borrow.Author.Needs.{needs}
 use mathlib.Core.Path.{_≡_, sym, _∙_}
 use Rattle.lists.proofs.Refusals.{stays, becomes}
 use Rattle.model.specs.Halves.{outcomeNumber, outcomeReturns, outcomeWords}
-use Rattle.member.specs.Needs.{Running}
+use Rattle.member_block.specs.Needs.{Running}
 use Rattle.member.proofs.Refusals.{outcome-good, words-made}
 use Rattle.member.proofs.take_outcome.Statement.{statement}
 use Rattle.member.proofs.take_outcome.Tie as tie

@@ -7,7 +7,7 @@ use Rattle.lists.proofs.Refusals.{becomes, stays}
 use Rattle.model.specs.Halves.{replyNumber, replyPairs, replyWords}
 use Rattle.model.specs.Records.{recordWithin}
 use Rattle.records.specs.Meaning.{recordIn}
-use Rattle.member.proofs.Laws.{few-pairs}
+use Rattle.member_block.proofs.Laws.{few-pairs}
 use Rattle.member.proofs.Refusals.{reply-good, words-made}
 use Rattle.member.proofs.take_reply.Statement.{statement}
 use Rattle.member.proofs.take_reply.Tie as tie

@@ -7,7 +7,7 @@ use lib.ListN.{length}
 use Rattle.lists.specs.Parts.{words}
 use Rattle.model.specs.Kinds.{concur}
 use Rattle.model.specs.Runs.{deliver}
-use Rattle.board.specs.Needs.{Sound}
+use Rattle.table_calls.specs.Needs.{Sound}
 use Rattle.board.proofs.Answers.{call-returns, good, of-deliver, some-words}
 use Rattle.board.specs.Interface.{Beside}
 use Rattle.board.proofs.Beside.{done-beside, handed, long-beside, own-beside, returned-kept, returned-written}

@@ -8,7 +8,7 @@ use Rattle.lists.specs.Parts.{words}
 use Rattle.lists.proofs.Functions.{from-zero}
 use Rattle.model.specs.RecordWords.{valueOf}
 use Rattle.model.specs.Table.{valueSize}
-use Rattle.board.specs.Needs.{Sound}
+use Rattle.table_calls.specs.Needs.{Sound}
 use Rattle.board.proofs.Answers.{of-begin, some-words}
 use Rattle.board.proofs.Beside.{done-beside, long-beside, own-beside, same-value}
 use Rattle.board.proofs.kinds.begin_beside.Statement.{statement}

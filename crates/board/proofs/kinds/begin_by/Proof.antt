@@ -2,7 +2,7 @@
 -- the table is sound and `begin_on` answers.
 use borrow.Author.Needs.{needs}
 use Rattle.lists.specs.Parts.{words}
-use Rattle.board.specs.Needs.{Sound}
+use Rattle.table_calls.specs.Needs.{Sound}
 use Rattle.board.proofs.Answers.{call-done, of-begin, own-call, some-words}
 use Rattle.board.proofs.kinds.begin_by.Statement.{statement}
 use Rattle.board.proofs.kinds.begin_by.Tie as tie

@@ -4,7 +4,7 @@ use mathlib.Core.Path.{_∙_, sym}
 use Rattle.lists.specs.Parts.{words}
 use Rattle.lists.proofs.Refusals.{number-refuses, number-passes}
 use Rattle.model.specs.TableCalls.{beginNumber}
-use Rattle.board.specs.Needs.{Sound}
+use Rattle.table_calls.specs.Needs.{Sound}
 use Rattle.board.proofs.Answers.{good, some-words}
 use Rattle.board.proofs.kinds.begin_number.Statement.{statement}
 use Rattle.board.proofs.kinds.begin_number.Tie as tie

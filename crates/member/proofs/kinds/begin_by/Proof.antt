@@ -5,7 +5,7 @@ use mathlib.Core.Path.{_∙_, _≡_, sym}
 use Rattle.lists.proofs.Refusals.{stays}
 use Rattle.model.specs.Halves.{memberBeginNumber, memberBeginWords}
 use Rattle.model.specs.Kinds.{Kind}
-use Rattle.member.specs.Needs.{Begins}
+use Rattle.member_block.specs.Needs.{Begins}
 use Rattle.member.proofs.Refusals.{words-made}
 use Rattle.member.proofs.kinds.begin_by.Statement.{statement}
 use Rattle.member.proofs.kinds.begin_by.Tie as tie

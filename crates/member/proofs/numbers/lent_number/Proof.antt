@@ -8,7 +8,7 @@ use Rattle.lists.proofs.Functions.{inside-high, inside-low}
 use Rattle.model.specs.Halves.{lentNumber}
 use Rattle.model.specs.Table.{blockNumber}
 use Rattle.laws.proofs.Tests.{allowed, refused}
-use Rattle.member.specs.Needs.{Block}
+use Rattle.member_block.specs.Needs.{Block}
 use Rattle.member.proofs.numbers.lent_number.Statement.{statement}
 use Rattle.member.proofs.numbers.lent_number.Tie as tie
 
@@ -24,18 +24,18 @@ sized c = c .before .before
 whole : (c : tie.Else2) → Block (start (sized c) .args .n) (start (sized c) .args .block .now)
 whole c =
     let p = size (sized c) in
-    record { least = inside-low 12 _ p; most = inside-high 12 _ p; long = c .if2 .left ∙ c .before .layout .ensures .size }
+    record { least = inside-low 12 _ p; most = inside-high 12 _ p; long = c .if2 .left ∙ c .before .block-size .ensures }
 
 returns : tie.Need-returns
 unfolding lentNumber
 returns c = rw (refused (c .before .is-numbered .ensures) (c .if1 .taken))
 
-layout-requires : tie.Need-layout-requires
-layout-requires c κs = inside-high 12 _ (size c)
+block-size-requires : tie.Need-block-size-requires
+block-size-requires c κs = inside-high 12 _ (size c)
 
 returns-2 : tie.Need-returns-2
 unfolding lentNumber blockNumber
-returns-2 c = rw (size (c .before .before), ne-eqb _ _ (λ e. c .if2 .taken (e ∙ sym (c .before .layout .ensures .size))))
+returns-2 c = rw (size (c .before .before), ne-eqb _ _ (λ e. c .if2 .taken (e ∙ sym (c .before .block-size .ensures))))
 
 sound-block-requires : tie.Need-sound-block-requires
 sound-block-requires c κs = whole c
@@ -55,4 +55,4 @@ returns-4 c =
 pub lent-number-spec : {M : Type 1} → statement M
 lent-number-spec =
     tie.close
-    (tie.spec (λ c κs. search needs) returns layout-requires returns-2 sound-block-requires returns-3 returns-4)
+    (tie.spec (λ c κs. search needs) returns block-size-requires returns-2 sound-block-requires returns-3 returns-4)

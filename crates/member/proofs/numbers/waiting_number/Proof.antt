@@ -9,7 +9,7 @@ use Rattle.lists.proofs.Refusals.{number-passes, number-refuses}
 use Rattle.model.specs.Halves.{notWaiting}
 use Rattle.model.specs.Table.{memberOf}
 use Rattle.member.proofs.Refusals.{good}
-use Rattle.member.proofs.Sizes.{head-room}
+use Rattle.member_block.proofs.Sizes.{head-room}
 use Rattle.member.proofs.numbers.waiting_number.Statement.{statement}
 use Rattle.member.proofs.numbers.waiting_number.Tie as tie
 

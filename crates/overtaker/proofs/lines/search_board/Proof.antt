@@ -10,8 +10,8 @@ use Rattle.model.specs.Cause.{without}
 use Rattle.model.specs.Script.{linesOf}
 use Rattle.model.specs.Table.{tableWords}
 use Rattle.script_run.proofs.Held.{whole-words, opened-words}
-use Rattle.overtaker.specs.Search.{searchStart, linesSearched}
-use Rattle.overtaker.proofs.Searched.{lines-answered}
+use Rattle.overtaker_search.specs.Search.{searchStart, linesSearched}
+use Rattle.overtaker_search.proofs.Searched.{lines-answered}
 use Rattle.overtaker.proofs.lines.search_board.Statement.{statement}
 use Rattle.overtaker.proofs.lines.search_board.Tie as tie
 

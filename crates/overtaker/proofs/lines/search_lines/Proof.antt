@@ -12,10 +12,10 @@ use Rattle.model.specs.Cause.{without}
 use Rattle.model.specs.Script.{linesOf, stepLine}
 use Rattle.script_run.specs.Meaning.{Whole}
 use Rattle.script_run.proofs.Held.{step-whole}
-use Rattle.overtaker.specs.Search.{searchOf, searchStart, linesSearched}
-use Rattle.overtaker.specs.declared.search.Search.{Search}
+use Rattle.overtaker_search.specs.Search.{searchOf, searchStart, linesSearched}
+use Rattle.overtaker_search.specs.declared.steps.Search.{Search}
 use Rattle.overtaker.proofs.NextLine.{NextLine, next-line, ahead, first-ahead, skips-line, runs-line, none-ahead}
-use Rattle.overtaker.proofs.LineTaken.{held-counts, search-ends, search-goes}
+use Rattle.overtaker_search.proofs.LineTaken.{held-counts, search-ends, search-goes}
 use Rattle.overtaker.proofs.lines.search_lines.Statement.{statement}
 use Rattle.overtaker.proofs.lines.search_lines.Tie as tie
 

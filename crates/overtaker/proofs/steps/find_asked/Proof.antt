@@ -3,7 +3,7 @@ use borrow.Author.Needs.{needs}
 use mathlib.Core.Path.{sym, ap, _∙_}
 use borrow.Author.Tests.{not-true, not-false}
 use Rattle.model.specs.Overtaker.{refuses, overtaker, overtakerFor}
-use Rattle.overtaker.specs.Meaning.{heldOvertaker}
+use Rattle.overtaker_search.specs.Meaning.{heldOvertaker}
 use Rattle.overtaker.proofs.Answers.{nothing-asked, something-asked}
 use Rattle.overtaker.proofs.steps.find_asked.Statement.{statement}
 use Rattle.overtaker.proofs.steps.find_asked.Tie as tie

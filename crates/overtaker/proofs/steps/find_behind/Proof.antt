@@ -13,7 +13,7 @@ use Rattle.lists.proofs.Functions.{inside-low, inside-high}
 use Rattle.model.specs.Script.{linesOf}
 use Rattle.model.specs.Overtaker.{linesOvertaker}
 use Rattle.model.proofs.Cause.{without-none}
-use Rattle.overtaker.specs.Meaning.{heldOvertaker}
+use Rattle.overtaker_search.specs.Meaning.{heldOvertaker}
 use Rattle.overtaker.proofs.Answers.{lines-malformed, no-size}
 use Rattle.overtaker.proofs.steps.find_behind.Statement.{statement}
 use Rattle.overtaker.proofs.steps.find_behind.Tie as tie

@@ -13,7 +13,7 @@ use Rattle.model.specs.Overtaker.{mostBytes}
 use Rattle.model.specs.Script.{lineFeed, firstOf}
 use Rattle.script.proofs.Lines.{before-within}
 use Rattle.script.proofs.Reading.{held-none, held-some}
-use Rattle.overtaker.specs.Meaning.{heldOvertaker}
+use Rattle.overtaker_search.specs.Meaning.{heldOvertaker}
 use Rattle.overtaker.proofs.Answers.{too-long, no-lines, first-malformed, first-named}
 use Rattle.overtaker.proofs.steps.find_on.Statement.{statement}
 use Rattle.overtaker.proofs.steps.find_on.Tie as tie

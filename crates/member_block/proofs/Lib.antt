@@ -1,0 +1,4 @@
+pub mod Sizes
+pub mod Begins
+pub mod InOrder
+pub mod Laws

@@ -1,0 +1,4 @@
+pub mod Tests
+pub mod LineTaken
+pub mod Stages
+pub mod Searched
