@@ -21,7 +21,8 @@ use Rattle.model.specs.History.{Op, Submit, Watch, watched}
 use Rattle.model.specs.Positions.{stepAt, IsDeliver, beganBy, begunCount, Decided}
 use Rattle.model.specs.Demand3.{Demand3}
 use Rattle.model.specs.Script.{firstOf, caller, linesOf}
-use Rattle.model.specs.Overtaker.{abortedOp, overtaking, overtakerIn, refuses, membersOvertaker, scriptOvertaker, mostBytes, overtaker}
+use Rattle.model.specs.Overtaker.{abortedOp, overtaking, overtakerIn, refuses, membersOvertaker, scriptOvertaker, mostBytes}
+use Rattle.model.specs.Overtaker.{overtaker}
 use Rattle.model.specs.Cause.{without, acceptedWithout, firstCause, causeIn, unlessRefused, mostLines, scriptCause, cause}
 use Rattle.model.specs.OvertakerClaims.{sampleCalls, sampleSeen}
 use Rattle.model.specs.CauseClaims.{Accepted, OfAnother, Costs, CauseAnswered, numberWithout, judgedBy, judged, SameOperations}

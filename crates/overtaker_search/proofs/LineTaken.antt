@@ -15,7 +15,8 @@ use Rattle.script_run.specs.Meaning.{Shows, StepHeld}
 use Rattle.script_run.specs.declared.Done.{Done}
 use Rattle.overtaker_search.specs.Meaning.{heldOvertaker}
 use Rattle.overtaker_search.specs.Search.{Search, searchOf, searchBegin, searchOwn, searchOther, searchSubmit, searchJudged}
-use Rattle.overtaker_search.specs.Search.{searchVerdict, searchDeliver, searchCall, searchNext, searchStep, unlessMalformed, linesSearched}
+use Rattle.overtaker_search.specs.Search.{searchVerdict, searchDeliver, searchCall, searchNext, searchStep}
+use Rattle.overtaker_search.specs.Search.{unlessMalformed, linesSearched}
 use Rattle.overtaker_search.specs.declared.Overtaker.{Overtaker}
 use Rattle.overtaker_search.specs.declared.steps.Search.{Search as SearchStruct}
 

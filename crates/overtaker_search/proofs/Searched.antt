@@ -32,11 +32,11 @@ use Rattle.model.proofs.OvertakerMarks.{Marks, marks-after, marks-nothing}
 use Rattle.runs.proofs.Scripts.{steps-run}
 use Rattle.overtaker_search.specs.Meaning.{heldOvertaker}
 use Rattle.overtaker_search.specs.Search.{Search, orFirst, searchStart, searchBegin, searchOwn, searchOther, searchSubmit}
-use Rattle.overtaker_search.specs.Search.{searchJudged, searchVerdict, searchDeliver, searchCall, searchNext, searchStep, searchAnswer}
-use Rattle.overtaker_search.specs.Search.{unlessMalformed, linesSearched}
+use Rattle.overtaker_search.specs.Search.{searchJudged, searchVerdict, searchDeliver, searchCall, searchNext, searchStep}
+use Rattle.overtaker_search.specs.Search.{searchAnswer, unlessMalformed, linesSearched}
 use Rattle.overtaker_search.specs.declared.Overtaker.{Overtaker}
-use Rattle.overtaker_search.proofs.Stages.{shown, Stage, waits, stage-begins, stage-submits, stage-replies, stage-judges, stage-overtaken}
-use Rattle.overtaker_search.proofs.Stages.{stage-apart, stage-ended, stage-idle, stage-answers}
+use Rattle.overtaker_search.proofs.Stages.{shown, Stage, waits, stage-begins, stage-submits, stage-replies, stage-judges}
+use Rattle.overtaker_search.proofs.Stages.{stage-overtaken, stage-apart, stage-ended, stage-idle, stage-answers}
 
 -- the operation whose submit member j sends, once that is taken, and the submits with it
 abbrev takenOp : Watch → ℕ → Op
