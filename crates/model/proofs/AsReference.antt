@@ -136,7 +136,8 @@ module _ (kind : Kind) where
       → run kind n b calls ≡ ref_run kind n ref calls
   unfolding run ref_run
   run-as-reference inv [] = refl
-  run-as-reference inv (call ∷ calls) = λ t. same_seen inv call t ∷ run-as-reference (step_keeps inv call) calls t
+  run-as-reference {n} {b} {ref} inv (call ∷ calls) = λ t. same_seen inv call t
+      ∷ run-as-reference {n = n} {b = after kind n b call} {ref = ref_after kind n ref call} (step_keeps inv call) calls t
 
   -- Every reply passes all checks, and a deliver that leads to phase 3 is one.
 
@@ -155,7 +156,8 @@ module _ (kind : Kind) where
       → Checked n calls (boards kind n b calls) (run kind n b calls)
   unfolding run boards
   run-checked inv [] = tt
-  run-checked inv (call ∷ calls) = (checked-at inv call, run-checked (step_keeps inv call) calls)
+  run-checked {n} {b} {ref} inv (call ∷ calls) =
+    (checked-at inv call, run-checked {n = n} {b = after kind n b call} {ref = ref_after kind n ref call} (step_keeps inv call) calls)
 
 -- For every kind of board, every n and every list of calls.
 pub as_reference_lem : (kind : Kind) (n : ℕ) (calls : List Call) → run kind n (opened n) calls ≡ ref_run kind n ref_opened calls

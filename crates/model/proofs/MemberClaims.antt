@@ -30,7 +30,7 @@ module _ (parts : List Part) (m left : Member) where
       → Kept Part.accepted → Kept Part.last → Kept Part.pending → Kept Part.known → Kept Part.first → Kept Part.second
       → ChangesOnly parts m left
   unfolding ChangesOnly
-  each_part phase crashed halt slot operation own accepted last pending known first second part = elim part [
+  each_part phase crashed halt slot operation own accepted last pending known first second part = elim part as (λ k. Kept k) [
     | Part.phase ↦ phase
     | Part.crashed ↦ crashed
     | Part.halt ↦ halt

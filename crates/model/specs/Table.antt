@@ -34,11 +34,11 @@ slot_at = 3
 abbrev pub operation_at : ℕ
 operation_at = 4
 
-abbrev pub field_own : ℕ
-field_own = 5
+abbrev pub own_at : ℕ
+own_at = 5
 
 unfoldable pub accepted_at : ℕ → ℕ
-accepted_at n = field_own + n
+accepted_at n = own_at + n
 
 unfoldable pub last_at : ℕ → ℕ
 last_at n = accepted_at n + n
@@ -103,7 +103,7 @@ member_of n w = record {
   halt = w halt_at;
   slot = w slot_at;
   operation = w operation_at;
-  own = row_of n (from w field_own);
+  own = row_of n (from w own_at);
   accepted = row_of n (from w (accepted_at n));
   last = value_of (from w (last_at n));
   pending = value_of (from w (pending_at n));
