@@ -1,5 +1,7 @@
 // The board: n members and the host in one table of words. Each call checks the whole table, then its arguments, then makes its step; a
 // call that is refused by a number changes nothing.
+#![tactic(auto)]
+
 ghost use Rattle.std.specs.Prelude.{◌≡◌, false};
 ghost use Rattle.lists.specs.Parts.{words};
 ghost use Rattle.model.specs.Kinds.{concur};

@@ -1,5 +1,7 @@
 // The step that cost an operation: a script's bytes and an operation in; out comes the first step of another member without which the host
 // would have accepted the operation, or none, or a refusal's number.
+#![tactic(auto)]
+
 ghost use Rattle.std.specs.Prelude.{◌≡◌};
 ghost use Rattle.model.specs.Cause.{cause, refused};
 ghost use Rattle.cause.specs.Meaning.{held_cause};
@@ -11,7 +13,7 @@ use script_run::MOST_WORDS;
 use steps::find_on;
 
 // A refusal's number, or 0; then the step, or 0 where there is none.
-#[derive(Drop)]
+#[derive(Clone, Copy)]
 pub struct Cause {
     pub number: u32,
     pub step: u32,

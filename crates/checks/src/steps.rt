@@ -11,7 +11,7 @@ ghost use Rattle.lists.specs.Functions.{Within};
 use rows::{Check, Row, matrix_below};
 
 // What checks found: the number of the first that fails, 0 where all pass, and how many pairs of counts were compared until then.
-#[derive(Drop)]
+#[derive(Clone, Copy)]
 pub struct Halt {
     pub number: u32,
     pub pairs: u32,

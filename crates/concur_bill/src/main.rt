@@ -1,4 +1,6 @@
 // The bill program: a script from standard input, and the bill of its members to standard output.
+#![tactic(auto)]
+
 ghost use Rattle.std.specs.Prelude.{◌≤◌, ◌≡◌, true, false, not, ◌&&◌, ltb, length};
 ghost use Rattle.script_run.specs.Feeding.{most_kept, over};
 ghost use Rattle.script_run.specs.Meaning.{most_words, state_of};
@@ -12,7 +14,7 @@ use streams::{MOST_TURNS, read_some, turns_left, write_out};
 use tariff::Accounts;
 
 // What was counted so far, whether it could be read, and whether there may be more to read.
-#[derive(Drop)]
+#[derive(Clone, Copy)]
 struct Turn {
     counted: Counted,
     ok: bool,

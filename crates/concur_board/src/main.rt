@@ -1,4 +1,6 @@
 // The board program: a script from standard input, and what it prints to standard output.
+#![tactic(auto)]
+
 ghost use Rattle.std.specs.Prelude.{◌≤◌, ◌≡◌, true, false, not, ◌&&◌, ltb, length};
 ghost use Rattle.script.specs.Meaning.{longest_printed};
 ghost use Rattle.script_run.specs.Feeding.{most_kept, over};
@@ -9,7 +11,7 @@ use script_run::{MOST_KEPT, MOST_WORDS, Progress};
 use streams::{MOST_TURNS, read_some, turns_left, write_out};
 
 // How far the script has come, and whether there may be more to read.
-#[derive(Drop)]
+#[derive(Clone, Copy)]
 struct Turn {
     progress: Progress,
     more: bool,

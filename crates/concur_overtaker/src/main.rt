@@ -1,4 +1,6 @@
 // Who overtook my operation: the member and the ordinal as arguments, a script from standard input, and one line to standard output.
+#![tactic(auto)]
+
 ghost use Rattle.std.specs.Prelude.{◌≤◌, ◌≡◌, length};
 ghost use Rattle.overtaker.specs.Meaning.{longest_answer};
 ghost use Rattle.script_run.specs.Meaning.{most_words};

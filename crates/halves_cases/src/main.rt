@@ -1,5 +1,7 @@
 // The cases P9, P10 and P11 of document 01, an auction gateway's begin and an own read (document 02, (b) and (a)) on the two halves as they
 // run, and the pairs that a reply's checks look at; what is printed is compared with the file stdout.
+#![tactic(auto)]
+
 use records::Record;
 use rows::Row;
 

@@ -1,4 +1,6 @@
 // The host half: take a submit, take a commit, on the n host entries.
+#![tactic(auto)]
+
 ghost use Rattle.std.specs.Prelude.{◌≡◌, cond, eqb};
 ghost use Rattle.model.specs.Records.{zero_record};
 ghost use Rattle.model.specs.Halves.{host_number, submit_words, submit_newest, submit_stored, commit_number, commit_outcome, commit_words};
@@ -13,7 +15,7 @@ use numbers::host_number;
 use records::Record;
 
 // What a submit is answered: its number, and the slot's newest and stored records; on a refusal both are zero.
-#[derive(Drop)]
+#[derive(Clone, Copy)]
 pub struct Reply {
     pub number: u32,
     pub newest: Record,
@@ -21,7 +23,7 @@ pub struct Reply {
 }
 
 // What a commit is answered: its number, and the outcome, 1 accepted, 2 aborted; 0 on a refusal.
-#[derive(Drop)]
+#[derive(Clone, Copy)]
 pub struct Verdict {
     pub number: u32,
     pub outcome: u32,

@@ -1,4 +1,6 @@
 // The check of a log of accepted operations, for C and for Rattle: include/concur.h.
+#![tactic(auto)]
+
 ghost use Rattle.std.specs.Prelude.{◌≡◌};
 ghost use Rattle.logs.specs.Log.{log_number, LogChecked};
 

@@ -1,4 +1,6 @@
 // The member half: begin, take a reply, take an outcome, crash, on the member's own part of the table.
+#![tactic(auto)]
+
 ghost use Rattle.std.specs.Prelude.{◌≤◌, ◌≡◌, false};
 ghost use Rattle.lists.specs.Parts.{words};
 ghost use Rattle.model.specs.Kinds.{concur};
@@ -22,7 +24,7 @@ use records::Record;
 use rules::{LIMIT, MOST_MEMBERS};
 
 // What taking a reply hands back: its number, and how many pairs of counts the checks compared; none where it is refused.
-#[derive(Drop)]
+#[derive(Clone, Copy)]
 pub struct Replied {
     pub number: u32,
     pub pairs: u32,

@@ -16,7 +16,7 @@ pub const OPERATION_AT: usize = 4;
 
 pub const OWN_AT: usize = 5;
 
-#[derive(Drop)]
+#[derive(Clone, Copy)]
 pub struct Places {
     pub accepted: usize,
     pub last: usize,

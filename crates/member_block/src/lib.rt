@@ -1,4 +1,6 @@
 // The member's block: the steps on it, what they require of it, and what an outcome hands back.
+#![tactic(auto)]
+
 ghost use Rattle.std.specs.Prelude.{◌≡◌};
 ghost use Rattle.std.proofs.Math.Option.{none};
 ghost use Rattle.lists.specs.Parts.{words};
@@ -13,7 +15,7 @@ mod parts;
 pub mod steps;
 
 // What taking an outcome hands back: its number, and whether a value is returned, and which; zero where there is none.
-#[derive(Drop)]
+#[derive(Clone, Copy)]
 pub struct Outcome {
     pub number: u32,
     pub returned: bool,

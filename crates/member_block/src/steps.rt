@@ -26,7 +26,7 @@ use records::steps::{
 use rules::{READ, begin_answer, crash_answer, deliver_answer, is_numbered};
 
 // A submit: the operation's slot and own count.
-#[derive(Drop)]
+#[derive(Clone, Copy)]
 pub struct Submit {
     pub slot: u32,
     pub count: u32,

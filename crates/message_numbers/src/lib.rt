@@ -1,4 +1,6 @@
 // The kinds of message, and the number that the reader and the check answer.
+#![tactic(auto)]
+
 ghost use Rattle.std.specs.Prelude.{◌≡◌, true, ◌&&◌, ◌+◌, ◌*◌, ◌≤◌, length};
 ghost use Rattle.lists.specs.Functions.{inside};
 ghost use Rattle.lists.specs.Parts.{words};

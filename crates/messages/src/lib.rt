@@ -1,4 +1,6 @@
 // Messages as bytes: the reader, the writer, and the check that a C gateway calls.
+#![tactic(auto)]
+
 ghost use Rattle.std.specs.Prelude.{◌≡◌};
 ghost use Rattle.std.proofs.Math.Option.{none};
 ghost use Rattle.model.specs.Messages.{read_number};
@@ -17,7 +19,7 @@ mod reader;
 mod writer;
 
 // A message by value, and the number that the reader answered. Unused parts are zero; a commit's record stands in `newest`.
-#[derive(Drop)]
+#[derive(Clone, Copy)]
 pub struct Message {
     pub number: u32,
     // 1 submit, 2 reply, 3 commit, 4 outcome
@@ -54,7 +56,7 @@ impl Message {
 }
 
 // The writer's answer: its number, and how many bytes it wrote.
-#[derive(Drop)]
+#[derive(Clone, Copy)]
 pub struct Written {
     pub number: u32,
     pub length: usize,

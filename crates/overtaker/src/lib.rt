@@ -1,4 +1,6 @@
 // Who overtook an operation: a script's bytes and an operation in, the first submit that overtook it or a refusal's number out.
+#![tactic(auto)]
+
 ghost use Rattle.std.specs.Prelude.{◌≡◌};
 ghost use Rattle.model.specs.Overtaker.{overtaker, asked_by};
 ghost use Rattle.overtaker_search.specs.Meaning.{held_overtaker};
@@ -13,7 +15,7 @@ use script_run::MOST_WORDS;
 use steps::find_on;
 
 // The operation that the arguments ask for: the member's ordinal-th. Or they are not two numbers: then these are 0.
-#[derive(Drop)]
+#[derive(Clone, Copy)]
 pub struct Asked {
     pub ok: bool,
     pub member: u32,

@@ -1,4 +1,6 @@
 // One pass over the steps of a script: what is remembered of the operation asked for, and who overtook it.
+#![tactic(auto)]
+
 ghost use Rattle.std.specs.Prelude.{◌≡◌};
 ghost use Rattle.model.specs.Overtaker.{refuses};
 ghost use Rattle.overtaker_search.specs.Meaning.{held_overtaker};
@@ -6,7 +8,7 @@ ghost use Rattle.overtaker_search.specs.Meaning.{held_overtaker};
 pub mod steps;
 
 // The submit that overtook the operation: its member, and the step at which the host took it. Where a number refuses, these are 0.
-#[derive(Drop)]
+#[derive(Clone, Copy)]
 pub struct Overtaker {
     pub number: u32,
     pub member: u32,

@@ -12,7 +12,7 @@ use script_run::Done;
 
 // The steps so far, and the slot of the operation that each member began last. Of the operation asked for: how many its member has begun,
 // whether its submit was taken and its commit was not, its slot, and the first submit on that slot since, or 31.
-#[derive(Drop)]
+#[derive(Clone, Copy)]
 pub struct Search {
     pub steps: u32,
     pub slots: [u32; 12],

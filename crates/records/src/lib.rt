@@ -1,4 +1,6 @@
 // Records: what a member commits and the host keeps, by value and in table words.
+#![tactic(auto)]
+
 ghost use Rattle.std.specs.Prelude.{◌≡◌};
 ghost use Rattle.model.specs.Records.{opening as openingOf, zero_record};
 ghost use Rattle.model.specs.Kinds.{becomes_stored};
@@ -10,7 +12,7 @@ use rules::{WRITE, is_fit};
 
 pub mod steps;
 
-#[derive(Drop)]
+#[derive(Clone, Copy)]
 pub struct Record {
     pub member: u32,
     pub slot: u32,

@@ -1,4 +1,6 @@
 // Timestamp rows and matrices by value: one entry replaced, and comparison over the first n entries.
+#![tactic(auto)]
+
 ghost use Rattle.std.specs.Prelude.{◌≡◌, true, cond, min};
 ghost use Rattle.model.specs.Rows.{is_equal, is_below, is_above, is_crossed};
 ghost use Rattle.model.specs.Rows.{compared, crossed, equal_or_below, larger as largerOf, matrix_below, with_count, zero_row};
@@ -6,13 +8,13 @@ ghost use Rattle.model.specs.Pairs.{row_pairs25};
 ghost use Rattle.rows.specs.Meaning.{row_in, matrix_in, comparison_in};
 
 // A row of a working copy: a count for each of twelve members, the unused ones zero.
-#[derive(Drop)]
+#[derive(Clone, Copy)]
 pub struct Row {
     pub counts: [u32; 12],
 }
 
 // How one row stands to another: below and above are for rows that are not equal.
-#[derive(Drop)]
+#[derive(Clone, Copy)]
 pub enum Comparison {
     Equal,
     Below,
@@ -21,14 +23,14 @@ pub enum Comparison {
 }
 
 // What a comparison answers, and how many pairs of counts it compared.
-#[derive(Drop)]
+#[derive(Clone, Copy)]
 pub struct Compared {
     pub answer: Comparison,
     pub pairs: u32,
 }
 
 // A test of counts: whether it passed, and how many pairs of counts it compared.
-#[derive(Drop)]
+#[derive(Clone, Copy)]
 pub struct Check {
     pub passed: bool,
     pub pairs: u32,

@@ -1,5 +1,7 @@
 // Rows compared four ways, as they run. Each line: how the first row stands to the second, how many pairs were compared, and the first two
 // counts of the larger; what is printed is compared with the file stdout.
+#![tactic(auto)]
+
 use rows::{Comparison, Row};
 
 fn row(a: u32, b: u32) -> Row {

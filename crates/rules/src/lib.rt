@@ -1,5 +1,7 @@
 // The rules that both halves share, as Kinds.antt and Numbers.antt have them: the kinds of board, the types of operation, what number 7
 // refuses, and the numbers that answer a begin, a deliver and a crash, by the member's numbers and the arguments.
+#![tactic(auto)]
+
 ghost use Rattle.std.specs.Prelude.{◌≡◌, not, ◌||◌, eqb};
 ghost use Rattle.lists.specs.Functions.{inside};
 ghost use Rattle.model.specs.Kinds.{Kind, is_operation, fit_fields, barred};

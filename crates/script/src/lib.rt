@@ -1,4 +1,6 @@
 // The board program's lines, read from and printed to slices of bytes.
+#![tactic(auto)]
+
 ghost use Rattle.std.specs.Prelude.{◌≡◌, length};
 ghost use Rattle.model.specs.Script.{number_of, before, beyond, space, line_feed, line_of, first_of};
 ghost use Rattle.script.specs.Meaning.{held_number, held_line, held_one, held_two};
@@ -7,7 +9,7 @@ mod scan;
 pub mod steps;
 
 // A number that was read, or not: then its value is 0.
-#[derive(Drop)]
+#[derive(Clone, Copy)]
 pub struct Number {
     pub ok: bool,
     pub value: u32,
@@ -21,7 +23,7 @@ impl Number {
 }
 
 // A line that was read: its kind, its member, and a write's value or a read's slot. What a line does not have is 0.
-#[derive(Drop)]
+#[derive(Clone, Copy)]
 pub struct Line {
     pub kind: u32,
     pub member: u32,

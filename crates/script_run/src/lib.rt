@@ -1,4 +1,6 @@
 // The board program's lines, run on a table: what each did by value, and a script that comes in pieces. What is printed is made of that.
+#![tactic(auto)]
+
 ghost use Rattle.std.specs.Prelude.{List, [], ◌∷◌, ◌≡◌, ℕ};
 ghost use Rattle.script_run.specs.Feeding.{over};
 ghost use Rattle.script_run.specs.Meaning.{state_of};
@@ -13,7 +15,7 @@ pub mod steps;
 
 // How far a script has come: the number of the next line, the size of the table once it is opened, and how many bytes of the line are kept.
 // Line 0 is the first; above 1,000,000 the script is over.
-#[derive(Drop)]
+#[derive(Clone, Copy)]
 pub struct Progress {
     pub step: u32,
     pub size: usize,
@@ -42,7 +44,7 @@ impl Progress {
 }
 
 // What a line that is a step did: the line, its answer and the value returned, and the member's phase after it. Malformed: answered 17.
-#[derive(Drop)]
+#[derive(Clone, Copy)]
 pub struct Done {
     pub line: Line,
     pub outcome: Outcome,
@@ -51,7 +53,7 @@ pub struct Done {
 
 // What happened where a line ended: the first was REFUSED with a number, or the board was OPENED with that many members; the line of that
 // number was a STEP, and did what `done` says. Or no line ended: NOTHING.
-#[derive(Drop)]
+#[derive(Clone, Copy)]
 pub struct Event {
     pub kind: u32,
     pub number: u32,
@@ -69,14 +71,14 @@ impl Event {
 }
 
 // A line that was ended: how far the script has come, and what happened.
-#[derive(Drop)]
+#[derive(Clone, Copy)]
 pub struct Ended {
     pub progress: Progress,
     pub event: Event,
 }
 
 // What feeding some bytes did: how far the script has come, how many bytes were taken, and what happened.
-#[derive(Drop)]
+#[derive(Clone, Copy)]
 pub struct Fed {
     pub progress: Progress,
     pub taken: usize,
@@ -84,7 +86,7 @@ pub struct Fed {
 }
 
 // The same of bytes whose events were printed: how many bytes were written.
-#[derive(Drop)]
+#[derive(Clone, Copy)]
 pub struct Written {
     pub progress: Progress,
     pub taken: usize,

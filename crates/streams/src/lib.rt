@@ -1,10 +1,12 @@
 // Standard input and output for the programs, and what standard error says where one of them fails.
+#![tactic(auto)]
+
 ghost use Rattle.std.specs.Prelude.{◌-◌, ◌≤◌, ◌<◌, ◌≡◌, cond, length};
 
 use libc::{STDIN_FILENO, STDOUT_FILENO};
 
 // What was read: whether it could be, and how many bytes.
-#[derive(Drop)]
+#[derive(Clone, Copy)]
 pub struct Input {
     pub ok: bool,
     pub length: usize,

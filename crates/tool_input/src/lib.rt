@@ -1,4 +1,6 @@
 // What the programs that ask about one operation read: the member and the ordinal as arguments, and a script from standard input.
+#![tactic(auto)]
+
 ghost use Rattle.std.specs.Prelude.{◌≡◌, true, false, ◌≤◌, length};
 ghost use Rattle.tool_input.specs.Meaning.{Held};
 
