@@ -1,0 +1,42 @@
+-- `Row::compare` meets its contract: of the entries looked at, the flags say whether one exceeds its fellow. Assumes nothing.
+use borrow.Author.Rules.{rules}
+use Prim.Native.Nat.{◌-◌, ◌<◌, min}
+use mathlib.Core.Path.{sym, ap, ◌∙◌}
+use mathlib.Core.Bool.{not}
+use native.Mathlib.Omega.{arith}
+use Rattle.lists.proofs.Functions.{each_none}
+use Rattle.model.specs.Rows.{below}
+use Rattle.rows.proofs.Laws.{flag_more, flags_decide}
+use Rattle.rows.proofs.Row.compare.Goals as goal
+use Rattle.rows.proofs.Row.compare.Goals.{At-loop-i, In-loop-i, Start}
+
+abbrev start : At-loop-i → Start
+start c = c.before.before
+
+abbrev at_loop : In-loop-i → At-loop-i
+at_loop c = c.before
+
+pub loop-i-init : goal.loop-i-init
+unfolding below
+loop-i-init c = (search rules, (search rules, (search rules, (ap not (sym (each_none _)), ap not (sym (each_none _))))))
+
+pub loop-i-preserved : goal.loop-i-preserved
+loop-i-preserved c =
+    let loop = at_loop c.before.before in
+    let a = (start loop).args in
+    let l = loop.loop-i in
+    let flags = l.invariant.1.1.1 in
+    let h : l.i < 12 = omega arith in
+    let first = flag_more a.self a.other l.i h flags.0 in
+    let second = flag_more a.other a.self l.i h flags.1 in
+    (search rules, (search rules, (omega arith, (first, second))))
+
+-- once every entry is passed the flags decide, and all entries were looked at
+pub returns-clause-answer_value : goal.returns-clause-answer_value
+returns-clause-answer_value c =
+    let loop = c.before.before in
+    let a = (start loop).args in
+    let l = loop.loop-i in
+    let flags = l.invariant.1.1.1 in
+    let decided = flags_decide (min a.n 12) l.i a.self a.other (omega arith) flags.0 flags.1 in
+    c.by_flags-answer.ensures ∙ sym decided
