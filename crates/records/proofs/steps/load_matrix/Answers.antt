@@ -1,0 +1,42 @@
+-- `load_matrix` meets its contract: the first j rows are those passed, the others zero. Assumes nothing.
+use borrow.Author.Rules.{rules}
+use Prim.Native.Nat.{ℕ, ◌-◌, ◌*◌}
+use mathlib.Core.Path.{◌≡◌, refl, sym, ap, ◌∙◌}
+use native.Mathlib.Omega.{arith}
+use lib.ListN.{length-set}
+use Rattle.lists.specs.Functions.{from}
+use Rattle.lists.specs.Parts.{words}
+use Rattle.lists.proofs.Functions.{pasted_none, from_from}
+use Rattle.lists.proofs.Parts.{seen_more}
+use Rattle.model.specs.Rows.{zero_matrix}
+use Rattle.model.specs.RecordWords.{row_of, matrix_of}
+use Rattle.rows.specs.Meaning.{row_in, no_row}
+use Rattle.rows.proofs.Laws.{zero_rows, matrix_read}
+use Rattle.records.proofs.steps.load_matrix.Goals as goal
+
+pub loop-j-init : goal.loop-j-init
+loop-j-init c = (search rules, (refl, zero_rows ∙ sym (pasted_none 0 _ _)))
+
+pub loop-j-preserved : goal.loop-j-preserved
+loop-j-preserved c =
+    let a = c.before.before.before.before.args in
+    let l = c.before.before.loop-j in
+    let w : ℕ → ℕ = words a.t.now in (
+      search rules,
+      (
+        simp length-set (omega arith),
+        seen_more row_in no_row l.matrix 0 l.j l.j c.Load-row.result
+            (λ k. row_of a.n (from (from w a.at) (k * a.n))) zero_matrix
+            l.invariant.1.1 (omega arith) (omega arith)
+            (c.Load-row.ensures ∙ ap (row_of a.n) (sym (from_from w a.at (l.j * a.n)))),
+      ),
+    )
+
+pub returns : goal.returns
+unfolding matrix_of
+returns c =
+    let a = c.before.before.before.args in
+    let l = c.before.loop-j in
+    let e : l.j ≡ a.n = omega arith in
+    matrix_read l.matrix a.n (λ k. row_of a.n (from (from (words a.t.now) a.at) (k * a.n))) (omega arith)
+    (rw e at l.invariant.1.1)
