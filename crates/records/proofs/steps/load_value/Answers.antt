@@ -9,7 +9,7 @@ use Rattle.lists.specs.Parts.{words}
 use Rattle.lists.proofs.Functions.{pasted_none, pasted_in}
 use Rattle.lists.proofs.Parts.{words_zeros, words_more}
 use Rattle.model.specs.RecordWords.{value_of}
-use Rattle.laws.proofs.Records.{valueOf_same}
+use Rattle.laws.proofs.Records.{value_of_same}
 use Rattle.records.proofs.steps.load_value.Goals as goal
 
 pub loop-i-init : goal.loop-i-init
@@ -33,5 +33,5 @@ returns c =
     let l = c.loop-i in
     let e : l.i ≡ 8 = omega arith in
     let w : ℕ → ℕ = from (words a.t.now) a.at in
-    ap value_of (rw e at l.invariant.1.1) ∙ valueOf_same (pasted 0 8 w (λ k. 0)) w
+    ap value_of (rw e at l.invariant.1.1) ∙ value_of_same (pasted 0 8 w (λ k. 0)) w
     (λ i h. pasted_in 0 8 w (λ k. 0) i (omega arith) (omega arith) ∙ ap w (omega arith))

@@ -2,12 +2,8 @@
 use mathlib.Core.Path.{refl}
 use Rattle.member_block.specs.Results.{returned_in}
 use Rattle.records.proofs.Laws.{zero_value_lem}
-use Rattle.member_block.proofs.Outcome.nothing.Statement.{statement}
-use Rattle.member_block.proofs.Outcome.nothing.Tie as tie
+use Rattle.member_block.proofs.Outcome.nothing.Goals as goal
 
-returns : tie.Need-returns
+pub returns : goal.returns
 unfolding returned_in
 returns c = (refl, (refl, zero_value_lem))
-
-pub nothing-spec : {M : Type 1} → statement M
-nothing-spec = tie.close (tie.spec returns)
