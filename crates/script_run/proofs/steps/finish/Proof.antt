@@ -13,7 +13,7 @@ returns c =
     let printed = c.before.before in
     let ended = printed.before.before.before in
     let a = ended.before.before.before.before.before.before.args in
-    let w = printed.print-event.ensures (last_events concur (state_of a.p a.table.now a.kept.now)) ended.last_Line.ensures in
+    let w = printed.print-event.ensures (last_events concur (state_of a.p a.table.now a.kept.now)) ended.last_line.ensures in
     record { room = w.room; printed = wrote_front w (omega arith) }
 
 pub finish_spec : {M : Type 1} → statement M
