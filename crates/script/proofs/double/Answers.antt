@@ -12,8 +12,6 @@ use Rattle.script.proofs.Reading.{held_none, held_some, number_empty, two_none, 
 use Rattle.script.proofs.double.Goals as goal
 use Rattle.script.proofs.double.Goals.{After-find-at, Else-not-argument, Else-not-member, Then-not-argument, Then-not-member}
 
--- What is known at each place, built on the place before.
-
 -- the part before the space, and the part beyond it, as they are lent
 
 abbrev front : After-find-at → List ℕ
@@ -58,7 +56,7 @@ second c =
     ap number_of (back_is at_find_at) ∙ held_some (number_of (back at_find_at)) r.result r.ensures
     (not-false r.result.ok c.if-not-argument.false)
 
--- The needs.
+-- The goals.
 
 pub returns-then-at-t : goal.returns-then-at-t
 unfolding held_line

@@ -8,8 +8,6 @@ use Rattle.script.proofs.parse_line.Goals as goal
 use Rattle.script.proofs.parse_line.Goals.{After-starts_with, After-starts_with-2, After-starts_with-3, After-starts_with-4}
 use Rattle.script.proofs.parse_line.Goals.{Else-starts_with, Else-starts_with-2, Else-starts_with-3}
 
--- The text, at each place where a word is tried.
-
 -- Whether it begins with the word that is tried there.
 
 is_write : (c : After-starts_with) → starts_with write_word c.args.t.now ≡ c.starts_with.result
@@ -33,7 +31,7 @@ no_read c = is_read (goal.at.Else-starts_with-2 c).After-starts_with-2 ∙ c.if-
 no_deliver : (c : Else-starts_with-3) → starts_with deliver_word c.args.t.now ≡ false
 no_deliver c = is_deliver (goal.at.Else-starts_with-3 c).After-starts_with-3 ∙ c.if-starts_with-3.false
 
--- The needs.
+-- The goals.
 
 pub slice_bounds-double-count : goal.slice_bounds-double-count
 slice_bounds-double-count c = starts_fits write_word c.args.t.now

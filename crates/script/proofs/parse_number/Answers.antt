@@ -32,7 +32,7 @@ whole c =
     let l = c.loop-i in
     passed (goal.at.After-loop-i c).At-loop-i ∙ ap limited (read_end c.args.t.now l.value l.i (omega arith))
 
--- The needs.
+-- The goals.
 
 pub returns-then-t-eq0 : goal.returns-then-t-eq0
 unfolding held_number

@@ -23,7 +23,7 @@ next c =
     let l = c.loop-i in
     sym l.invariant.1 ∙ starts_step c.args.word.now c.args.t.now l.i (omega arith) (omega arith)
 
--- The needs.
+-- The goals.
 
 pub returns-then-t-word : goal.returns-then-t-word
 returns-then-t-word c = sym (starts_short c.args.word.now c.args.t.now (omega arith))

@@ -24,7 +24,7 @@ fits c =
 room : (c : After-print_number-next) → c.print_number-next.result + 1 ≤ length c.print_number-next.new.out
 room c = room_then c.print_number-next.ensures (c.args.end ∷ []) (fits (goal.at.After-print_number-next c).Else-not-has)
 
--- The needs.
+-- The goals.
 
 pub bounds-out-at-then-not-has : goal.bounds-out-at-then-not-has
 bounds-out-at-then-not-has c = simp length-set (omega (arith, two (goal.at.bounds-out-at-then-not-has c).Start))

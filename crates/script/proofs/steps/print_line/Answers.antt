@@ -46,7 +46,7 @@ room4 : (c : After-print_field-fourth) → c.print_field-fourth.result + length
 room4 c = room_then c.print_field-fourth.ensures (f4 (goal.at.After-print_field-fourth c).Start)
     (room3 (goal.at.After-print_field-fourth c).After-print_field-third)
 
--- The needs.
+-- The goals.
 
 pub print_field-second-requires : goal.print_field-second-requires
 print_field-second-requires c =

@@ -24,7 +24,7 @@ fewer c = c.loop-rest.invariant.0 ∙ length_more c.loop-rest.rest c.loop-rest-t
 one : (c : After-loop-rest) → c.loop-rest.left ≡ 1
 one c = c.loop-rest.invariant.0 ∙ length-one c.loop-rest.rest c.loop-rest-test.false
 
--- The needs.
+-- The goals.
 
 pub overflow_sub-out : goal.overflow_sub-out
 overflow_sub-out c = omega (arith, some (goal.at.overflow_sub-out c).At-loop-rest)

@@ -12,7 +12,7 @@ use Rattle.script.proofs.steps.print_pair.Goals.{Start}
 abbrev f2 : Start → List ℕ
 f2 s = field (some s.args.y) line_feed
 
--- The needs.
+-- The goals.
 
 pub returns : goal.returns
 returns c =

@@ -1,5 +1,4 @@
 -- `count_at` meets its contract: the number of a place that is used, and 0 past them.
-use borrow.Author.Rules.{rules}
 use Prim.Native.Nat.{◌-◌}
 use mathlib.Core.Path.{◌≡◌, sym, ap, ◌∙◌}
 use native.Mathlib.Omega.{arith}
@@ -8,12 +7,11 @@ use Rattle.lists.specs.Parts.{words}
 use Rattle.lists.proofs.Functions.{pasted_in, pasted_above}
 use Rattle.model.specs.Messages.{number_in}
 use Rattle.laws.proofs.Messages.{numberIn_at}
-use Rattle.message_bytes.proofs.steps.count_at.Statement.{statement}
-use Rattle.message_bytes.proofs.steps.count_at.Tie as tie
+use Rattle.message_bytes.proofs.steps.count_at.Goals as goal
 
-returns : tie.Need-returns
-returns c =
-    let a = c.before.before.before.args in
+pub returns-then-i-n : goal.returns-then-i-n
+returns-then-i-n c =
+    let a = c.args in
     let g = number_in (from (words a.s.now) a.at) in
     let e : a.i ≡ a.i - 0 = omega arith in
     c.read_number.ensures
@@ -21,11 +19,7 @@ returns c =
     ∙ ap g e
     ∙ sym (pasted_in 0 a.n g (λ k. 0) a.i (omega arith) (omega arith))
 
-returns-2 : tie.Need-returns-2
-returns-2 c =
-    let a = c.before.before.args in
+pub returns : goal.returns
+returns c =
+    let a = c.args in
     sym (pasted_above 0 a.n (number_in (from (words a.s.now) a.at)) (λ k. 0) a.i (omega arith))
-
-pub count-at-spec : {M : Type 1} → statement M
-count-at-spec =
-    tie.close (tie.spec (λ c. search rules) (λ c. search rules) (λ c κs. search rules) returns returns-2)
