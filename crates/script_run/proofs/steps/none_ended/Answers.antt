@@ -1,14 +1,12 @@
 -- `none_ended` meets its contract: an event of kind 0 stands for none.
-use borrow.Author.Rules.{rules}
 use native.Mathlib.Omega.{arith}
 use mathlib.Core.Path.{refl}
 use mathlib.Core.Option.{none}
 use Rattle.script_run.specs.Meaning.{events_of}
 use Rattle.script_run.proofs.Made.{none_made}
-use Rattle.script_run.proofs.steps.none_ended.Statement.{statement}
-use Rattle.script_run.proofs.steps.none_ended.Tie as tie
+use Rattle.script_run.proofs.steps.none_ended.Goals as goal
 
-returns : tie.Need-returns
+pub returns : goal.returns
 unfolding events_of
 returns c = (
   refl,
@@ -23,6 +21,3 @@ returns c = (
     },
   ),
 )
-
-pub none-ended-spec : {M : Type 1} → statement M
-none-ended-spec = tie.close (tie.spec (λ c κs. search rules) returns)
