@@ -1,6 +1,6 @@
 -- `load_value` meets its contract: the first i words are those passed. Assumes nothing.
 use borrow.Author.Rules.{rules}
-use Prim.Native.Nat.{ℕ, ◌-◌}
+use Prim.Native.Nat.{ℕ}
 use mathlib.Core.Path.{◌≡◌, refl, sym, ap, ◌∙◌}
 use native.Mathlib.Omega.{arith}
 use lib.ListN.{length-set}
@@ -18,8 +18,8 @@ loop-i-init c = (search rules, (refl, words_zeros 8 ∙ sym (pasted_none 0 _ _))
 pub loop-i-preserved : goal.loop-i-preserved
 unfolding from
 loop-i-preserved c =
-    let a = c.before.before.before.args in
-    let l = c.before.before.loop-i in (
+    let a = c.args in
+    let l = c.loop-i in (
       search rules,
       (
         simp length-set (omega arith),
@@ -29,8 +29,8 @@ loop-i-preserved c =
 
 pub returns : goal.returns
 returns c =
-    let a = c.before.before.args in
-    let l = c.before.loop-i in
+    let a = c.args in
+    let l = c.loop-i in
     let e : l.i ≡ 8 = omega arith in
     let w : ℕ → ℕ = from (words a.t.now) a.at in
     ap value_of (rw e at l.invariant.1.1) ∙ valueOf_same (pasted 0 8 w (λ k. 0)) w
