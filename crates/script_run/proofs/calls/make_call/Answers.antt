@@ -2,7 +2,7 @@
 use mathlib.Core.List.{[], ◌∷◌}
 use lib.ListN.{replicate}
 use Rattle.lists.specs.Parts.{words}
-use Rattle.model.specs.Runs.{Call, begin, deliver, crash}
+use Rattle.model.specs.Runs.{Call, begin, crash}
 use Rattle.model.specs.RecordWords.{value_of}
 use Rattle.script_run.specs.Meaning.{call_for}
 use Rattle.script_run.proofs.Held.{call_write, call_read, call_deliver, call_crash, begin_silent, crash_silent, call_plain}

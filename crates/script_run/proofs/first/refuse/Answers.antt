@@ -9,9 +9,9 @@ use Rattle.script_run.proofs.first.refuse.Goals as goal
 pub returns-clause-events_held : goal.returns-clause-events_held
 unfolding events_of
 returns-clause-events_held c = record {
-    happened = none;
-    held = c.no_step.ensures;
-    events = refl;
-    made = none_made c.no_step.result c.no_step.ensures;
-    size = λ e. absurd (omega arith);
-  }
+  happened = none;
+  held = c.no_step.ensures;
+  events = refl;
+  made = none_made c.no_step.result c.no_step.ensures;
+  size = λ e. absurd (omega arith);
+}

@@ -36,11 +36,11 @@ going c =
 
 -- the events are those of the line's end if it has begun
 events : (c : At-After-begun)
-    → last_events concur (state c.before.before.before.before.before) ≡ cond c.begun.result-1
+    → last_events concur (state c.before.before.before.before.before) ≡ cond c.begun.result
     (line_run concur (state c.before.before.before.before.before)).events []
 events c =
     let a = c.args in
-    last_begun_lem a.p a.table.now a.kept.now (going c.before) (omega (arith, c.requires.line, c.requires.keeps)) c.begun.result-1
+    last_begun_lem a.p a.table.now a.kept.now (going c.before) (omega (arith, c.requires.line, c.requires.keeps)) c.begun.result
     c.begun.ensures
 
 -- The needs.
@@ -54,7 +54,7 @@ returns-then-is_over c =
 
 pub returns-then-not-begun : goal.returns-then-not-begun
 returns-then-not-begun c =
-    rw (events c.before.before.before.before, not-true c.begun.result-1 c.if-not-begun.true-raw) c.none_ended-then-not-begun.ensures.1.1
+    rw (events c.before.before.before.before, not-true c.begun.result c.if-not-begun.true-raw) c.none_ended-then-not-begun.ensures.1.1
 
 pub end_line-requires : goal.end_line-requires
 end_line-requires c =
@@ -62,4 +62,4 @@ end_line-requires c =
 
 pub returns : goal.returns
 returns c =
-    rw (events c.before.before.before.before.before.before.before, not-false c.begun.result-1 c.if-not-begun.false-raw) c.end_line.ensures.events
+    rw (events c.before.before.before.before.before.before.before, not-false c.begun.result c.if-not-begun.false-raw) c.end_line.ensures.events

@@ -23,14 +23,14 @@ At-After-last_word-word = lts.After-last_word tie.the-claims reads.Pre reads.Pos
 abbrev text : At-After-last_word-word → List ℕ
 text c =
     let a = c.args in
-    printed_line a.step a.done.outcome-1.number (given c.shows_phase-phased.result a.done.phase)
-    (given a.done.outcome-1.returned c.last_word-word.result)
+    printed_line a.step a.done.outcome.number (given c.shows_phase-phased.result a.done.phase)
+    (given a.done.outcome.returned c.last_word-word.result)
 
 short : (c : At-After-last_word-word) → length (text c) ≤ longest_printed
 short c =
     let a = c.args in
-    line_short a.step a.done.outcome-1.number a.done.phase c.last_word-word.result c.shows_phase-phased.result
-    a.done.outcome-1.returned
+    line_short a.step a.done.outcome.number a.done.phase c.last_word-word.result c.shows_phase-phased.result
+    a.done.outcome.returned
     (search rules) (search rules) (search rules) (search rules)
 
 -- The needs.
@@ -43,7 +43,7 @@ returns c s h =
     let a = c.args in
     let d = a.done in
     let same : text c.before.before.before.before.before ≡ _ = λ i.
-    printed_line a.step d.outcome-1.number (given (c.shows_phase-phased.ensures i) d.phase)
-    (given d.outcome-1.returned (c.last_word-word.ensures i)) in
+    printed_line a.step d.outcome.number (given (c.shows_phase-phased.ensures i) d.phase)
+    (given d.outcome.returned (c.last_word-word.ensures i)) in
     let e : printed_step a.step s ≡ text c.before.before.before.before.before = step_shown a.step d s h ∙ sym same in
     rw e (wrote c.print_line.ensures (omega (arith, short c.before.before.before.before.before, c.requires)))
