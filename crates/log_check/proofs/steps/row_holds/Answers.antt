@@ -1,5 +1,5 @@
--- `row_holds` meets its contract: the tests of its fields and of its positions beside what is remembered, and the read's clause, say of every
--- clause of a row whether it holds.
+-- `row_holds` meets its contract: the tests of its fields and of its positions beside what is remembered, and the read's clause, say of
+-- every clause of a row whether it holds.
 use Prim.Native.Nat.{ℕ, ◌*◌, ◌+◌, ◌≤◌}
 use mathlib.Core.Path.{◌≡◌, sym, ap, ap₂, ◌∙◌}
 use mathlib.Core.Bool.{true, not, ◌&&◌}
