@@ -1,5 +1,6 @@
 -- `search_lines` meets its contract: what the lines from here on give, with what is remembered, is what all give; and a line more is
 -- refused or leaves that so.
+use borrow.Author.Rules.{rules}
 use Prim.Native.Nat.{ℕ, ◌+◌, ◌-◌}
 use mathlib.Core.Path.{◌≡◌, refl, sym, ap, ◌∙◌}
 use mathlib.Core.List.{List, ◌∷◌}
@@ -94,6 +95,9 @@ ran_here : (c : At-Else-number-skip) → let a = c.args in
 ran_here c =
     let a = c.args in
     runs-line a.script.now a.skip c.loop-at.at c.line_length.result (next c.before) c.loop-at.number c.if-number-skip.false
+
+pub slice_bounds-run_line-end : goal.slice_bounds-run_line-end
+slice_bounds-run_line-end c = let n = next c.before.before.before in search rules
 
 pub returns-then-done-eq-MALFORMED : goal.returns-then-done-eq-MALFORMED
 returns-then-done-eq-MALFORMED c =

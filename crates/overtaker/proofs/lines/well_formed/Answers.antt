@@ -1,5 +1,5 @@
 -- `well_formed` meets its contract: the lines passed have the form of a step, so that all do if those from here on do.
-use Prim.Native.Nat.{◌-◌}
+use borrow.Author.Rules.{rules}
 use mathlib.Core.Path.{sym, ap, ◌∙◌}
 use native.Mathlib.Omega.{arith}
 use Rattle.model.specs.Overtaker.{well_formed}
@@ -24,6 +24,9 @@ next c =
 pub overflow_add-end : goal.overflow_add-end
 overflow_add-end c = omega (arith, (next c.before).within, c.loop-at.invariant.0)
 
+pub slice_bounds-parse_line-end : goal.slice_bounds-parse_line-end
+slice_bounds-parse_line-end c = let n = next c.before in search rules
+
 pub returns-then-line-eq-MALFORMED : goal.returns-then-line-eq-MALFORMED
 returns-then-line-eq-MALFORMED c =
     sym (c.loop-at.invariant.1
@@ -31,13 +34,12 @@ returns-then-line-eq-MALFORMED c =
     c.parse_line-line.result c.parse_line-line.ensures c.if-line-eq-MALFORMED.true)
 
 pub loop-at-preserved : goal.loop-at-preserved
-loop-at-preserved c =
-    (
-      c.loop-at.invariant.0,
-      c.loop-at.invariant.1
-          ∙ formed-same c.args.script.now c.loop-at.at c.loop-at-test.true c.line_length.result (next c.before.before.before.before.before)
-          c.parse_line-line.result c.parse_line-line.ensures c.if-line-eq-MALFORMED.false,
-    )
+loop-at-preserved c = (
+  c.loop-at.invariant.0,
+  c.loop-at.invariant.1
+      ∙ formed-same c.args.script.now c.loop-at.at c.loop-at-test.true c.line_length.result (next c.before.before.before.before.before)
+      c.parse_line-line.result c.parse_line-line.ensures c.if-line-eq-MALFORMED.false,
+)
 
 pub returns : goal.returns
 unfolding well_formed

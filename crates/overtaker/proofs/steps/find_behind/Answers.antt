@@ -64,13 +64,13 @@ returns-then-is_numbered c =
 
 pub returns-then-well_formed : goal.returns-then-well_formed
 returns-then-well_formed c =
-    let formed = sym c.well-formed-2.ensures ∙ c.if-well_formed.true in
+    let formed = sym c.well_formed-2.ensures ∙ c.if-well_formed.true in
     c.refused.ensures
     ∙ ap held_overtaker
     (sym (no_size c.args.member c.args.ordinal c.args.n (behind c.before.before.before.before.before.before.before.before) (outside c.before.before.before.before) formed))
 
 pub returns : goal.returns
 returns c =
-    let malformed = sym c.well-formed-2.ensures ∙ c.if-well_formed.false in
+    let malformed = sym c.well_formed-2.ensures ∙ c.if-well_formed.false in
     c.refused-2.ensures
     ∙ ap held_overtaker (sym (lines-malformed c.args.member c.args.ordinal c.args.n (behind c.before.before.before.before.before.before.before.before) malformed))
