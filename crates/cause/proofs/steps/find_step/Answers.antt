@@ -37,7 +37,8 @@ overtaken : (c : After-parse_members-n)
 overtaken c =
     let a = c.args in
     let p = c.requires in
-    lines-overtaken c.args.script.now a.member a.ordinal p.script_len_bound.0 a.end p.end_value.0 p.end_value.1 c.parse_members-n.result.value (named c)
+    lines-overtaken c.args.script.now a.member a.ordinal p.script_len_bound.0 a.end p.end_value.0 p.end_value.1
+    c.parse_members-n.result.value (named c)
 
 sized : (c : After-parse_members-n) → inside 12 c.parse_members-n.result.value ≡ true
 sized c = size c.parse_members-n.result.value (behind c) c.args.member c.args.ordinal (overtaken c)
