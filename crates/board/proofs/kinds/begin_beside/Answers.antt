@@ -33,10 +33,12 @@ returns-then-number-ne0 c kind limit most =
 
 pub returns-then-value-ne8 : goal.returns-then-value-ne8
 returns-then-value-ne8 c kind limit most =
-    long-beside kind _ _ _ _ (of_begin kind _ _ _ _ _ (c.begin_number-number.ensures.value kind most)) c.if-number-ne0.false (misfit c.before)
+    long-beside kind _ _ _ _ (of_begin kind _ _ _ _ _ (c.begin_number-number.ensures.value kind most)) c.if-number-ne0.false
+    (misfit c.before)
 
 pub returns : goal.returns
 returns c kind limit most =
     let value = c.load_value.ensures ∙ ap value_of (from_zero (words c.args.value.now)) in
-    done-beside kind _ _ _ _ (of_begin kind _ _ _ _ _ (c.begin_number-number.ensures.value kind most)) c.if-number-ne0.false (fits c.before.before.before.before.before.before.before)
+    done-beside kind _ _ _ _ (of_begin kind _ _ _ _ _ (c.begin_number-number.ensures.value kind most)) c.if-number-ne0.false
+    (fits c.before.before.before.before.before.before.before)
     (same_value value (c.begin_on.ensures kind limit))

@@ -52,4 +52,5 @@ open_all-requires c =
 
 pub returns : goal.returns
 returns c kind most =
-    opens kind _ _ (sized_for c.before.before.before.before.before.before.before kind most) (long c.before.before.before.before.before) c.open_all.ensures
+    opens kind _ _ (sized_for c.before.before.before.before.before.before.before kind most)
+    (long c.before.before.before.before.before) c.open_all.ensures

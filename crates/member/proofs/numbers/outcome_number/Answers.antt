@@ -30,13 +30,15 @@ judged : (c : At-Else-number-ne0) (r : ℕ) → r ≡ fields c.before.before.bef
     let a = c.args in r ≡ outcome_number a.n a.member a.block.now a.res
 unfolding outcome_number
 judged c r h =
-    passed_waiting (standing c.before.before.before) (idle c.before.before.before) (fields c.before.before.before) c.waiting_number-number.ensures
+    passed_waiting (standing c.before.before.before) (idle c.before.before.before)
+    (fields c.before.before.before) c.waiting_number-number.ensures
     c.if-number-ne0.false h
 
 pub returns-then-number-ne0 : goal.returns-then-number-ne0
 unfolding outcome_number
 returns-then-number-ne0 c =
-    refused_waiting (standing c.before.before.before.before) (idle c.before.before.before.before) (fields c.before.before.before.before) c.waiting_number-number.ensures
+    refused_waiting (standing c.before.before.before.before) (idle c.before.before.before.before)
+    (fields c.before.before.before.before) c.waiting_number-number.ensures
     c.if-number-ne0.true
 
 pub returns-then-not-is_numbered : goal.returns-then-not-is_numbered

@@ -40,13 +40,15 @@ answer s =
 judged : (c : At-Else-number-ne0) (r : ℕ) → r ≡ fields c.before.before.before → r ≡ answer c.before.before.before
 unfolding reply_number fit_record record_within
 judged c r h =
-    passed_waiting (standing c.before.before.before) (idle c.before.before.before) (fields c.before.before.before) c.waiting_number-number.ensures
+    passed_waiting (standing c.before.before.before) (idle c.before.before.before)
+    (fields c.before.before.before) c.waiting_number-number.ensures
     c.if-number-ne0.false h
 
 pub returns-then-number-ne0 : goal.returns-then-number-ne0
 unfolding reply_number fit_record record_within
 returns-then-number-ne0 c =
-    refused_waiting (standing c.before.before.before.before) (idle c.before.before.before.before) (fields c.before.before.before.before) c.waiting_number-number.ensures
+    refused_waiting (standing c.before.before.before.before) (idle c.before.before.before.before)
+    (fields c.before.before.before.before) c.waiting_number-number.ensures
     c.if-number-ne0.true
 
 pub returns-then-seals-gt3 : goal.returns-then-seals-gt3

@@ -35,8 +35,9 @@ abbrev limited : After-begin_answer → Kind
 limited c = record { limit = c.args.limit; most = 0; sized = omega arith }
 
 pub returns-clause-fact : goal.returns-clause-fact
-returns-clause-fact c = answered (goal.at.returns-clause-fact c).After-shared_slice_known-3-1
+returns-clause-fact c = answered (goal.at.returns-clause-fact c).After-begin_answer
 
 pub returns-clause-begins : goal.returns-clause-begins
-returns-clause-begins c = λ z. begins (limited c) c.ranges.limit.fits _ _ _ _ _ c.requires
-    (sym (answered (goal.at.returns-clause-begins c).After-shared_slice_known-3-1 (limited c) refl) ∙ z)
+returns-clause-begins c =
+    let at = (goal.at.returns-clause-begins c).After-begin_answer in
+    λ z. begins (limited at) c.ranges.limit.fits _ _ _ _ _ c.requires (sym (answered at (limited at) refl) ∙ z)

@@ -36,7 +36,8 @@ lent : (c : After-block_size) → let a = c.args in
 lent c = block_lent c.requires (numbered c.before.before) c.block_at-at.ensures c.block_size.ensures
 
 answered : (c : After-begin_answer_on-number) (kind : Kind) → c.args.limit ≡ kind.limit
-    → c.begin_answer_on-number.result ≡ answer_of kind c.args.n (board_of c.args.n (words c.args.table.now)) (call c.before.before.before.before.before.before.before)
+    → c.begin_answer_on-number.result ≡ answer_of kind c.args.n (board_of c.args.n (words c.args.table.now))
+    (call c.before.before.before.before.before.before.before)
 unfolding answer_of
 answered c kind limit =
     let a = c.args in
@@ -48,7 +49,8 @@ answered c kind limit =
 
 pub returns-then-not-is_numbered : goal.returns-then-not-is_numbered
 returns-then-not-is_numbered c kind limit =
-    refuses kind _ _ (call c.before.before.before.before) 4 c.requires (no_begin _ _ _ kind _ _ _ (refused c.is_numbered.ensures c.if-not-is_numbered.true-raw))
+    refuses kind _ _ (call c.before.before.before.before) 4 c.requires
+    (no_begin _ _ _ kind _ _ _ (refused c.is_numbered.ensures c.if-not-is_numbered.true-raw))
     (λ e. omega arith)
 
 pub block_at-at-requires : goal.block_at-at-requires
@@ -56,11 +58,13 @@ block_at-at-requires c = let w = numbered c.before in (c.requires.most, (w.least
 
 pub returns-then-number-ne0 : goal.returns-then-number-ne0
 returns-then-number-ne0 c kind limit =
-    refuses kind _ _ (call c.before.before.before.before.before.before.before.before) _ c.requires (answered c.before kind limit) c.if-number-ne0.true
+    refuses kind _ _ (call c.before.before.before.before.before.before.before.before) _ c.requires
+    (answered c.before kind limit) c.if-number-ne0.true
 
 pub returns : goal.returns
 unfolding done board_begun
 returns c kind limit =
-    takes kind _ _ (call c.before.before.before.before.before.before.before.before.before.before.before.before.before) _ (sym c.if-number-ne0.false ∙ answered c.before.before.before.before.before.before kind limit)
+    takes kind _ _ (call c.before.before.before.before.before.before.before.before.before.before.before.before.before) _
+    (sym c.if-number-ne0.false ∙ answered c.before.before.before.before.before.before kind limit)
     (step_left (lent c.before.before.before.before.before.before.before.before) c.begin.new.block c.begin.auto.block
     (λ m. begun m c.args.slot c.args.operation (value_of (words c.args.value))) c.begin.ensures)

@@ -31,7 +31,8 @@ returns-then-kind-eq-WRITE c call s h =
 
 pub returns-then-kind-eq-READ : goal.returns-then-kind-eq-READ
 returns-then-kind-eq-READ c call s h =
-    c.begin-then-kind-eq-READ.ensures ∙ sym (call_reads c.args.member c.args.ordinal (held c.before.before.before) c.args.done call s h c.if-kind-eq-READ.true)
+    c.begin-then-kind-eq-READ.ensures ∙ sym
+    (call_reads c.args.member c.args.ordinal (held c.before.before.before) c.args.done call s h c.if-kind-eq-READ.true)
 
 pub returns-then-kind-ne-DELIVER : goal.returns-then-kind-ne-DELIVER
 returns-then-kind-ne-DELIVER c call s h =
@@ -50,14 +51,16 @@ returns-then-phase-eq4 c call s h =
     let a = c.args in
     c.judge.ensures
     ∙ sym (delivered c.before.before.before call s h
-    ∙ deliver-accepts a.member a.ordinal (held c.before.before.before.before.before.before) a.done.line.member a.done.phase c.if-phase-eq4.true)
+    ∙ deliver-accepts a.member a.ordinal (held c.before.before.before.before.before.before) a.done.line.member a.done.phase
+    c.if-phase-eq4.true)
 
 pub returns-then-phase-eq5 : goal.returns-then-phase-eq5
 returns-then-phase-eq5 c call s h =
     let a = c.args in
     c.judge-then-phase-eq5.ensures
     ∙ sym (delivered c.before.before.before.before call s h
-    ∙ deliver-aborts a.member a.ordinal (held c.before.before.before.before.before.before.before) a.done.line.member a.done.phase c.if-phase-eq5.true)
+    ∙ deliver-aborts a.member a.ordinal (held c.before.before.before.before.before.before.before) a.done.line.member a.done.phase
+    c.if-phase-eq5.true)
 
 pub returns : goal.returns
 returns c call s h =
