@@ -23,7 +23,7 @@ def snake(word):
 
 
 def is_camel(word):
-    return bool(re.match(r"[a-z]\w*$", word)) and bool(re.search(r"[a-z0-9][A-Z]", word)) and "_" not in word
+    return bool(re.match(r"[a-z]\w*$", word)) and bool(re.search(r"[a-z0-9][A-Z]", word))
 
 
 def is_symbol(word):
@@ -43,7 +43,7 @@ def names():
     defined, lemmas, words = set(), set(), set()
     for path in files("specs") + files("proofs"):
         walk = path.endswith("/Proof.antt")
-        for line in open(path, encoding="utf-8").read().split("\n"):
+        for line in open(path, encoding="utf-8").read().replace("field_own", "own_at").split("\n"):
             words.update(TOKEN.findall(code(line)))
             found = DECLARED.match(code(line))
             if found and not walk:
@@ -82,6 +82,7 @@ def respelled(text, turned, dashes):
 
 def turn(path, turned):
     text = open(path, encoding="utf-8").read()
+    text = text.replace("field_own", "own_at")
     if path.endswith(".antt"):
         out = []
         for line in text.split("\n"):

@@ -14,7 +14,7 @@ use Rattle.model.specs.Records.{Rec, opening, zero_record, zero_value}
 use Rattle.model.specs.RecordWords.{record_size, row_of, matrix_of, value_of, record_of, record_words}
 use Rattle.model.specs.Member.{Member, idle}
 use Rattle.model.specs.Host.{Entry}
-use Rattle.laws.proofs.Records.{rowOf_same, valueOf_same, matrix_of-same, record_of-same, row_listed, value_listed, matrix_listed}
+use Rattle.laws.proofs.Records.{row_of_same, value_of_same, matrix_of-same, record_of-same, row_listed, value_listed, matrix_listed}
 use Rattle.laws.proofs.Records.{record_words_of, length-record_words, record_of-words, within_opening}
 use Rattle.model.specs.Table.{own_at, stored_at, accepted_at, last_at, pending_at, known_at, first_at, second_at, block_size, newest_at, entry_size}
 use Rattle.model.specs.Table.{member_of, entry_of, stored_of, member_words, entry_words}
@@ -34,10 +34,10 @@ member_same n v w h = λ t. record {
   halt = h 2 (omega arith) t;
   slot = h 3 (omega arith) t;
   operation = h 4 (omega arith) t;
-  own = rowOf_same n (from v own_at) (from w own_at) (λ i p. h (own_at + i) (omega arith)) t;
-  accepted = rowOf_same n (from v (accepted_at n)) (from w (accepted_at n)) (λ i p. h (accepted_at n + i) (omega arith)) t;
-  last = valueOf_same (from v (last_at n)) (from w (last_at n)) (λ i p. h (last_at n + i) (omega arith)) t;
-  pending = valueOf_same (from v (pending_at n)) (from w (pending_at n)) (λ i p. h (pending_at n + i) (omega arith)) t;
+  own = row_of_same n (from v own_at) (from w own_at) (λ i p. h (own_at + i) (omega arith)) t;
+  accepted = row_of_same n (from v (accepted_at n)) (from w (accepted_at n)) (λ i p. h (accepted_at n + i) (omega arith)) t;
+  last = value_of_same (from v (last_at n)) (from w (last_at n)) (λ i p. h (last_at n + i) (omega arith)) t;
+  pending = value_of_same (from v (pending_at n)) (from w (pending_at n)) (λ i p. h (pending_at n + i) (omega arith)) t;
   known = matrix_of-same n (from v (known_at n)) (from w (known_at n)) (λ i p. h (known_at n + i) (omega arith)) t;
   first = record_of-same n (from v (first_at n)) (from w (first_at n)) (λ i p. h (first_at n + i) (omega arith)) t;
   second = record_of-same n (from v (second_at n)) (from w (second_at n)) (λ i p. h (second_at n + i) (omega arith)) t;

@@ -57,9 +57,9 @@ bytes_back b h =
     let s = h 3 in
     four (λ k. words (number_bytes (number_of b)) k ≡ b k) (omega arith) (omega arith) (omega arith) (omega arith)
 
-pub numberOf_same : (b c : ℕ → ℕ) → ((k : ℕ) → k < 4 → b k ≡ c k) → number_of b ≡ number_of c
+pub number_of_same : (b c : ℕ → ℕ) → ((k : ℕ) → k < 4 → b k ≡ c k) → number_of b ≡ number_of c
 unfolding number_of
-numberOf_same b c h = rw (h 0 (omega arith), h 1 (omega arith), h 2 (omega arith), h 3 (omega arith))
+number_of_same b c h = rw (h 0 (omega arith), h 1 (omega arith), h 2 (omega arith), h 3 (omega arith))
 
 -- Numbers one after the other.
 
@@ -82,17 +82,17 @@ byte_in_from w a i =
     let q : (a * 4 + i) % 4 ≡ i % 4 = omega arith in
     rw (p, q)
 
-pub numberIn_from : (b : ℕ → ℕ) (a : ℕ) → from (number_in b) a ≡ number_in (from b (a * 4))
+pub number_in_from : (b : ℕ → ℕ) (a : ℕ) → from (number_in b) a ≡ number_in (from b (a * 4))
 unfolding number_in from
-numberIn_from b a = fun_ext λ i. ap number_of (fun_ext λ k. ap b (let e : (a + i) * 4 + k ≡ a * 4 + (i * 4 + k) = omega arith in e))
+number_in_from b a = fun_ext λ i. ap number_of (fun_ext λ k. ap b (let e : (a + i) * 4 + k ≡ a * 4 + (i * 4 + k) = omega arith in e))
 
-pub numberIn_at : (b : ℕ → ℕ) (a i : ℕ) → number_in (from b a) i ≡ number_of (from b (a + i * 4))
+pub number_in_at : (b : ℕ → ℕ) (a i : ℕ) → number_in (from b a) i ≡ number_of (from b (a + i * 4))
 unfolding number_in
-numberIn_at b a i = ap number_of (from_from b a (i * 4))
+number_in_at b a i = ap number_of (from_from b a (i * 4))
 
-pub numberOf_at : (b : ℕ → ℕ) (a : ℕ) → number_of (from b a) ≡ b a * 16777216 + b (a + 1) * 65536 + b (a + 2) * 256 + b (a + 3)
+pub number_of_at : (b : ℕ → ℕ) (a : ℕ) → number_of (from b a) ≡ b a * 16777216 + b (a + 1) * 65536 + b (a + 2) * 256 + b (a + 3)
 unfolding number_of
-numberOf_at b a = rw (from_first b a, from_at b a 1, from_at b a 2, from_at b a 3)
+number_of_at b a = rw (from_first b a, from_at b a 1, from_at b a 2, from_at b a 3)
 
 -- one number more of a run
 pub number_more : (w : ℕ → ℕ) (a i : ℕ) (f : ℕ → ℕ)
@@ -106,14 +106,14 @@ pub number_written_lem : (w : ℕ → ℕ) (a i : ℕ) (f g h : ℕ → ℕ) →
     → h ≡ pasted (a + i * 4) 4 (words (number_bytes (w i))) g → h ≡ pasted a ((i + 1) * 4) (byte_in w) f
 number_written_lem w a i f g h p q = q ∙ ap (pasted (a + i * 4) 4 (words (number_bytes (w i)))) p ∙ number_more w a i f
 
-pub numberIn_same : (b c : ℕ → ℕ) (i : ℕ) → ((k : ℕ) → k < 4 → b (i * 4 + k) ≡ c (i * 4 + k)) → number_in b i ≡ number_in c i
+pub number_in_same : (b c : ℕ → ℕ) (i : ℕ) → ((k : ℕ) → k < 4 → b (i * 4 + k) ≡ c (i * 4 + k)) → number_in b i ≡ number_in c i
 unfolding number_in from
-numberIn_same b c i h = numberOf_same (from b (i * 4)) (from c (i * 4)) h
+number_in_same b c i h = number_of_same (from b (i * 4)) (from c (i * 4)) h
 
 numbers_back : (w : ℕ → ℕ) (i : ℕ) → w i < 4294967296 → number_in (byte_in w) i ≡ w i
 unfolding number_in from
 numbers_back w i h =
-    numberOf_same (from (byte_in w) (i * 4)) (words (number_bytes (w i))) (byte_in-at w i) ∙ number_back (w i) h
+    number_of_same (from (byte_in w) (i * 4)) (words (number_bytes (w i))) (byte_in-at w i) ∙ number_back (w i) h
 
 run_back : (b : ℕ → ℕ) → ((i : ℕ) → b i < 256) → (i : ℕ) → byte_in (number_in b) i ≡ b i
 unfolding byte_in number_in from
@@ -165,7 +165,7 @@ module _ (b : ℕ → ℕ) (a : ℕ) where
   word_count =
       headed-past (from b a) (number_in (from (from b a) byte_parts)) 0
       ∙ ap (λ w. number_in w 0) (from_from b a byte_parts)
-      ∙ numberIn_at b (a + byte_parts) 0
+      ∙ number_in_at b (a + byte_parts) 0
       ∙ ap (λ k. number_of (from b k)) (let e : a + byte_parts + 0 * 4 ≡ a + byte_parts = omega arith in e)
 
   word-further : (k : ℕ) → from (record_word (from b a)) (byte_parts + k) ≡ number_in (from b (a + (byte_parts + k * 4)))
@@ -173,7 +173,7 @@ module _ (b : ℕ → ℕ) (a : ℕ) where
   word-further k =
       sym (from_from (record_word (from b a)) byte_parts k)
       ∙ ap (λ w. from w k) (headed-rest (from b a) (number_in (from (from b a) byte_parts)))
-      ∙ numberIn_from (from (from b a) byte_parts) k
+      ∙ number_in_from (from (from b a) byte_parts) k
       ∙ ap number_in (from_from (from b a) byte_parts (k * 4) ∙ from_from b a (byte_parts + k * 4))
 
 pub record_from_parts : (n : ℕ) (b : ℕ → ℕ) (a : ℕ) → record_from n (from b a) ≡ record {
@@ -204,7 +204,7 @@ unfolding record_from record_word record_length record_size from
 record_from-same n b c h = record_of-same n (record_word b) (record_word c) (λ i p. by_part (λ i. record_word b i ≡ record_word c i) i
     (λ q. headed-first b (number_in (from b byte_parts)) i q ∙ h i (omega arith) ∙ sym (headed-first c (number_in (from c byte_parts)) i q))
     (λ k e. headed-past b (number_in (from b byte_parts)) k
-    ∙ numberIn_same (from b byte_parts) (from c byte_parts) k (λ j q. h (byte_parts + (k * 4 + j)) (omega arith))
+    ∙ number_in_same (from b byte_parts) (from c byte_parts) k (λ j q. h (byte_parts + (k * 4 + j)) (omega arith))
     ∙ sym (headed-past c (number_in (from c byte_parts)) k)))
 
 module _ (n : ℕ) (r : Rec) (ok : small_record n r ≡ true) where
@@ -289,9 +289,9 @@ length-encode n (reply newest stored) = simp (length-append, length-record_bytes
 length-encode n (commit r) = simp length-record_bytes (omega arith)
 length-encode n (outcome o) = refl
 
-pub lengthOf_least : (kind n : ℕ) → 3 ≤ length_of kind n
+pub length_of_least : (kind n : ℕ) → 3 ≤ length_of kind n
 unfolding length_of
-lengthOf_least kind n = on (eqb kind 1) (λ p. rw p (omega arith)) (λ p.
+length_of_least kind n = on (eqb kind 1) (λ p. rw p (omega arith)) (λ p.
     on (eqb kind 2) (λ q. rw (p, q) (omega arith)) (λ q.
     on (eqb kind 3) (λ r. rw (p, q, r) (omega arith)) (λ r. rw (p, q, r) (omega arith))))
 
@@ -299,9 +299,9 @@ pub record_length-most : (n : ℕ) → n ≤ 12 → record_length n ≤ 615
 unfolding record_length
 record_length-most n h = omega (arith, square_small n h)
 
-pub lengthOf_most : (kind n : ℕ) → n ≤ 12 → length_of kind n ≤ 1233
+pub length_of_most : (kind n : ℕ) → n ≤ 12 → length_of kind n ≤ 1233
 unfolding length_of
-lengthOf_most kind n h =
+length_of_most kind n h =
     let s = record_length-most n h in
     on (eqb kind 1) (λ p. rw p (omega arith)) (λ p.
     on (eqb kind 2) (λ q. rw (p, q) (omega arith)) (λ q.

@@ -47,19 +47,19 @@ matrix_word-at n m j i h = rw (digits_div j h, digits_mod j h)
 
 -- Equal words where a decoder looks give equal values.
 
-pub rowOf_same : (n : ℕ) (v w : ℕ → ℕ) → ((i : ℕ) → i < n → v i ≡ w i) → row_of n v ≡ row_of n w
+pub row_of_same : (n : ℕ) (v w : ℕ → ℕ) → ((i : ℕ) → i < n → v i ≡ w i) → row_of n v ≡ row_of n w
 unfolding row_of
-rowOf_same n v w h = numbered_same n 0 v w h
+row_of_same n v w h = numbered_same n 0 v w h
 
 pub matrix_of-same : (n : ℕ) (v w : ℕ → ℕ) → ((i : ℕ) → i < n * n → v i ≡ w i) → matrix_of n v ≡ matrix_of n w
 unfolding matrix_of from
 matrix_of-same n v w h =
     numbered_same n zero_row (λ j. row_of n (from v (j * n))) (λ j. row_of n (from w (j * n)))
-    (λ j p. rowOf_same n (from v (j * n)) (from w (j * n)) (λ i q. h (j * n + i) (entry_within n j i p q)))
+    (λ j p. row_of_same n (from v (j * n)) (from w (j * n)) (λ i q. h (j * n + i) (entry_within n j i p q)))
 
-pub valueOf_same : (v w : ℕ → ℕ) → ((i : ℕ) → i < 8 → v i ≡ w i) → value_of v ≡ value_of w
+pub value_of_same : (v w : ℕ → ℕ) → ((i : ℕ) → i < 8 → v i ≡ w i) → value_of v ≡ value_of w
 unfolding value_of
-valueOf_same v w h = numbered_same 8 0 v w h
+value_of_same v w h = numbered_same 8 0 v w h
 
 pub record_of-same : (n : ℕ) (v w : ℕ → ℕ) → ((i : ℕ) → i < record_size n → v i ≡ w i) → record_of n v ≡ record_of n w
 unfolding record_of record_size from
@@ -69,7 +69,7 @@ record_of-same n v w h =
       h 1 (omega arith),
       h 2 (omega arith),
       h 3 (omega arith),
-      valueOf_same (from v 4) (from w 4) (λ i p. h (4 + i) (omega arith)),
+      value_of_same (from v 4) (from w 4) (λ i p. h (4 + i) (omega arith)),
       matrix_of-same n (from v 12) (from w 12) (λ i p. h (12 + i) (omega arith)),
     )
 
@@ -87,21 +87,21 @@ record_of_parts n w a = rw (from_first w a, from_at w a 1, from_at w a 2, from_a
 
 -- What was laid out is read back.
 
-pub rowOf_next : (n : ℕ) (a : Row) → row_of n (λ i. a (i + 1)) ≡ within n 0 a
+pub row_of_next : (n : ℕ) (a : Row) → row_of n (λ i. a (i + 1)) ≡ within n 0 a
 unfolding row_of
-rowOf_next n a = numbered_next n 0 a
+row_of_next n a = numbered_next n 0 a
 
 pub matrix_of-words : (n : ℕ) (m : Matrix) → matrix_of n (matrix_word n m) ≡ within n zero_row (λ j. within n 0 (m j))
 unfolding matrix_of from
 matrix_of-words n m =
     numbered_same n zero_row (λ j. row_of n (from (matrix_word n m) (j * n))) (λ j. within n 0 (m (j + 1)))
-    (λ j p. rowOf_same n (from (matrix_word n m) (j * n)) (λ i. m (j + 1) (i + 1)) (λ i q. matrix_word-at n m j i q)
-    ∙ rowOf_next n (m (j + 1)))
+    (λ j p. row_of_same n (from (matrix_word n m) (j * n)) (λ i. m (j + 1) (i + 1)) (λ i q. matrix_word-at n m j i q)
+    ∙ row_of_next n (m (j + 1)))
     ∙ numbered_next n zero_row (λ j. within n 0 (m j))
 
-pub valueOf_next : (v : Value) → value_of (λ i. v (i + 1)) ≡ within 8 0 v
+pub value_of_next : (v : Value) → value_of (λ i. v (i + 1)) ≡ within 8 0 v
 unfolding value_of
-valueOf_next v = numbered_next 8 0 v
+value_of_next v = numbered_next 8 0 v
 
 -- The words of a record: four numbers, then the value, then the matrix.
 module _ (n : ℕ) (r : Rec) where
@@ -140,23 +140,23 @@ module _ (n : ℕ) (r : Rec) where
         head_words 1 (omega arith),
         head_words 2 (omega arith),
         head_words 3 (omega arith),
-        valueOf_same (from (words (record_words n r)) 4) (λ i. r.value (i + 1)) value_words ∙ valueOf_next r.value,
+        value_of_same (from (words (record_words n r)) 4) (λ i. r.value (i + 1)) value_words ∙ value_of_next r.value,
         matrix_of-same n (from (words (record_words n r)) 12) (matrix_word n r.matrix) matrix_words ∙ matrix_of-words n r.matrix,
       )
 
 -- Words that were read are written back as they were.
 
-pub rowOf_at : (n : ℕ) (w : ℕ → ℕ) (i : ℕ) → i < n → row_of n w (i + 1) ≡ w i
+pub row_of_at : (n : ℕ) (w : ℕ → ℕ) (i : ℕ) → i < n → row_of n w (i + 1) ≡ w i
 unfolding row_of
-rowOf_at n w i h = numbered_at n 0 w i h
+row_of_at n w i h = numbered_at n 0 w i h
 
 pub matrix_of-at : (n : ℕ) (w : ℕ → ℕ) (j : ℕ) → j < n → matrix_of n w (j + 1) ≡ row_of n (from w (j * n))
 unfolding matrix_of
 matrix_of-at n w j h = numbered_at n zero_row (λ j. row_of n (from w (j * n))) j h
 
-pub valueOf_at : (w : ℕ → ℕ) (i : ℕ) → i < 8 → value_of w (i + 1) ≡ w i
+pub value_of_at : (w : ℕ → ℕ) (i : ℕ) → i < 8 → value_of w (i + 1) ≡ w i
 unfolding value_of
-valueOf_at w i h = numbered_at 8 0 w i h
+value_of_at w i h = numbered_at 8 0 w i h
 
 pub square_pos : (n i : ℕ) → i < n * n → 0 < n
 square_pos zero i h = absurd (omega arith)
@@ -166,14 +166,14 @@ pub matrix_word_of : (n : ℕ) (w : ℕ → ℕ) (i : ℕ) → i < n * n → mat
 unfolding matrix_word from
 matrix_word_of n w i h =
     ap (λ a. a (i % n + 1)) (matrix_of-at n w (i / n) ((div-lt_iff_lt-mul (square_pos n i h)).1 h))
-    ∙ rowOf_at n (from w (i / n * n)) (i % n) (mod-lt i (square_pos n i h))
+    ∙ row_of_at n (from w (i / n * n)) (i % n) (mod-lt i (square_pos n i h))
     ∙ ap w (div-add-mod' i n)
 
 pub row_listed : (n : ℕ) (w : ℕ → ℕ) → listed n (row_of n w) ≡ tabulate n w
-row_listed n w = tabulate-same n (λ i. row_of n w (i + 1)) w (rowOf_at n w)
+row_listed n w = tabulate-same n (λ i. row_of n w (i + 1)) w (row_of_at n w)
 
 pub value_listed : (w : ℕ → ℕ) → listed 8 (value_of w) ≡ tabulate 8 w
-value_listed w = tabulate-same 8 (λ i. value_of w (i + 1)) w (valueOf_at w)
+value_listed w = tabulate-same 8 (λ i. value_of w (i + 1)) w (value_of_at w)
 
 pub matrix_listed : (n : ℕ) (w : ℕ → ℕ) → tabulate (n * n) (matrix_word n (matrix_of n w)) ≡ tabulate (n * n) w
 matrix_listed n w = tabulate-same (n * n) (matrix_word n (matrix_of n w)) w (matrix_word_of n w)

@@ -13,7 +13,7 @@ use Rattle.model.specs.Records.{Rec, matrix_within, record_within}
 use Rattle.model.specs.RecordWords.{matrix_of, value_of}
 use Rattle.model.specs.Member.{Member, entry22, row26, row27, check22, check23, check25, check26, check24, check27, halt_number, joined}
 use Rattle.model.specs.Pairs.{otherwise, row25, row_pairs25, pairs22, pairs25, pairs26, pairs27, halt_pairs}
-use Rattle.laws.proofs.Records.{matrix_of-same, matrix_of-words, matrix_word_of, valueOf_same, valueOf_next, valueOf_at}
+use Rattle.laws.proofs.Records.{matrix_of-same, matrix_of-words, matrix_word_of, value_of_same, value_of_next, value_of_at}
 
 -- What was read from words is all there.
 
@@ -21,7 +21,7 @@ pub matrix_all : (n : ℕ) (w : ℕ → ℕ) → matrix_within n (matrix_of n w)
 matrix_all n w = sym (matrix_of-words n (matrix_of n w)) ∙ matrix_of-same n _ w (matrix_word_of n w)
 
 pub value_all : (w : ℕ → ℕ) → within 8 0 (value_of w) ≡ value_of w
-value_all w = sym (valueOf_next (value_of w)) ∙ valueOf_same (λ i. value_of w (i + 1)) w (valueOf_at w)
+value_all w = sym (value_of_next (value_of w)) ∙ value_of_same (λ i. value_of w (i + 1)) w (value_of_at w)
 
 -- Rows and matrices within n, compared over 1 to n.
 

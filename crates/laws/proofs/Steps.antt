@@ -18,7 +18,7 @@ use Rattle.model.specs.RecordWords.{matrix_at, record_size, row_of, matrix_of, v
 use Rattle.model.specs.Member.{moved, begun, failed, judged, dropped, took_over, crashed_of}
 use Rattle.model.specs.Table.{phase_at, crashed_at, halt_at, slot_at, operation_at, own_at, accepted_at, last_at, pending_at, known_at, first_at}
 use Rattle.model.specs.Table.{second_at, member_of}
-use Rattle.laws.proofs.Records.{rowOf_same, matrix_of-same, valueOf_same, record_of-same, rowOf_at, length-record_words, record_of-words}
+use Rattle.laws.proofs.Records.{row_of_same, matrix_of-same, value_of_same, record_of-same, row_of_at, length-record_words, record_of-words}
 use Rattle.laws.proofs.Blocks.{value_zero, record_zero}
 
 -- a place outside a run that was pasted
@@ -80,10 +80,10 @@ module _ (n : ℕ) (v w : ℕ → ℕ) (Off : ℕ → Type 0) (rest : (i : ℕ) 
   part-kept f k looks a h = looks (from v a) (from w a) (λ i p. rest (a + i) (h (a + i) (omega arith) (omega arith)))
 
   pub row_kept : (a : ℕ) → ((i : ℕ) → a ≤ i → i < a + n → Off i) → row_of n (from v a) ≡ row_of n (from w a)
-  row_kept = part-kept (row_of n) n (rowOf_same n)
+  row_kept = part-kept (row_of n) n (row_of_same n)
 
   pub value_kept : (a : ℕ) → ((i : ℕ) → a ≤ i → i < a + 8 → Off i) → value_of (from v a) ≡ value_of (from w a)
-  value_kept = part-kept value_of 8 valueOf_same
+  value_kept = part-kept value_of 8 value_of_same
 
   pub matrix_kept : (a : ℕ) → ((i : ℕ) → a ≤ i → i < a + n * n → Off i) → matrix_of n (from v a) ≡ matrix_of n (from w a)
   matrix_kept = part-kept (matrix_of n) (n * n) (matrix_of-same n)
@@ -96,7 +96,7 @@ module _ (n : ℕ) (v w : ℕ → ℕ) (Off : ℕ → Type 0) (rest : (i : ℕ) 
       → row_of n (from v a) ≡ put (row_of n (from w a)) k x
   unfolding from row_of
   row_put a k x p q e h =
-      rowOf_same n (from v a) (put (from w a) (k - 1) x) (λ i r. on (eqb i (k - 1))
+      row_of_same n (from v a) (put (from w a) (k - 1) x) (λ i r. on (eqb i (k - 1))
       (λ s. let d : i ≡ k - 1 = eqb-true i (k - 1) s in
       let c : a + i ≡ a + k - 1 = omega arith in
       ap v c ∙ e ∙ sym (put_at (from w a) (k - 1) x) ∙ ap (put (from w a) (k - 1) x) (sym d))
@@ -110,7 +110,7 @@ pub count_of : (n : ℕ) (w : ℕ → ℕ) (a k : ℕ) → 1 ≤ k → k ≤ n �
 unfolding from
 count_of n w a k p q =
     ap (row_of n (from w a)) (let c : k ≡ k - 1 + 1 = omega arith in c)
-    ∙ rowOf_at n (from w a) (k - 1) (omega arith)
+    ∙ row_of_at n (from w a) (k - 1) (omega arith)
     ∙ ap w (let c : a + (k - 1) ≡ a + k - 1 = omega arith in c)
 
 -- The steps. Each law's `rest` says that a word which the step does not write is kept.
@@ -344,7 +344,7 @@ begun_by n w r t given value p q e = λ d. record {
       ∙ ap (λ c. put (row_of n (from w own_at)) r (c + 1)) (sym (count_of n w own_at r p q))) d;
   accepted = row_kept n v w Off rest (accepted_at n) (omega arith) d;
   last = value_kept n v w Off rest (last_at n) (omega arith) d;
-  pending = (valueOf_same (from v (pending_at n)) value pending ∙ e) d;
+  pending = (value_of_same (from v (pending_at n)) value pending ∙ e) d;
   known = matrix_kept n v w Off rest (known_at n) (omega arith) d;
   first = record_kept n v w Off rest (first_at n) (omega arith) d;
   second = record_kept n v w Off rest (second_at n) (omega arith) d;
@@ -457,7 +457,7 @@ module _ (n : ℕ) (w : ℕ → ℕ) where
     tookOver-write e =
         tookOver-by v (pasted_off (last_at n) 8 (from (kept n w) (pending_at n)) (kept n w))
         (rw e
-        (valueOf_same (from v (last_at n)) (from (kept n w) (pending_at n))
+        (value_of_same (from v (last_at n)) (from (kept n w) (pending_at n))
         (from_pasted_at (last_at n) 8 (from (kept n w) (pending_at n)) (kept n w))
         ∙ value_kept n (kept n w) w Other kept-other (pending_at n) (omega arith)))
       where

@@ -13,7 +13,7 @@ use Rattle.lists.proofs.Functions.{split-both}
 use Rattle.lists.proofs.Parts.{length-tabulate, tabulate-at}
 use Rattle.lists.proofs.Pieces.{second_at_lem}
 use Rattle.model.specs.Records.{Value, write}
-use Rattle.laws.proofs.Records.{valueOf_same, valueOf_next, within_zero_value}
+use Rattle.laws.proofs.Records.{value_of_same, value_of_next, within_zero_value}
 use Rattle.logs.specs.Log.{LogRow, RowHolds, LogHolds, Rises, InTurn, row_before, last_written, row_size, row_of, rows_of, log_of}
 use Rattle.logs.specs.OwnLog.{row_words, log_words}
 
@@ -31,24 +31,24 @@ cut row = record {
 
 -- Reading looks at a row's 14 words alone.
 
-rowOf_same : (v w : ℕ → ℕ) → ((i : ℕ) → i < row_size → v i ≡ w i) → row_of v ≡ row_of w
+row_of_same : (v w : ℕ → ℕ) → ((i : ℕ) → i < row_size → v i ≡ w i) → row_of v ≡ row_of w
 unfolding row_of from
-rowOf_same v w h = λ t. record {
+row_of_same v w h = λ t. record {
   member = h 0 (omega arith) t;
   operation = h 1 (omega arith) t;
   slot = h 2 (omega arith) t;
-  value = valueOf_same (from v 3) (from w 3) (λ i p. h (3 + i) (omega arith)) t;
+  value = value_of_same (from v 3) (from w 3) (λ i p. h (3 + i) (omega arith)) t;
   begin_at = h 11 (omega arith) t;
   accepted_at = h 12 (omega arith) t;
   end_at = h 13 (omega arith) t;
 }
 
-rowsOf_same : (v w : ℕ → ℕ) (k : ℕ) → ((i : ℕ) → i < k * row_size → v i ≡ w i) → rows_of v k ≡ rows_of w k
+rows_of_same : (v w : ℕ → ℕ) (k : ℕ) → ((i : ℕ) → i < k * row_size → v i ≡ w i) → rows_of v k ≡ rows_of w k
 unfolding rows_of from
-rowsOf_same v w zero h = refl
-rowsOf_same v w (suc k) h = λ t.
-    rowOf_same (from v (k * row_size)) (from w (k * row_size)) (λ i p. h (k * row_size + i) (omega arith)) t
-    ∷ rowsOf_same v w k (λ i p. h i (omega arith)) t
+rows_of_same v w zero h = refl
+rows_of_same v w (suc k) h = λ t.
+    row_of_same (from v (k * row_size)) (from w (k * row_size)) (λ i p. h (k * row_size + i) (omega arith)) t
+    ∷ rows_of_same v w k (λ i p. h i (omega arith)) t
 
 -- Written and read back: one row, and the rows of a log.
 
@@ -75,7 +75,7 @@ row_read row = λ t. record {
   member = row.member;
   operation = row.operation;
   slot = row.slot;
-  value = (valueOf_same (from (words (row_words row)) 3) (λ i. row.value (i + 1)) (value_words row) ∙ valueOf_next row.value) t;
+  value = (value_of_same (from (words (row_words row)) 3) (λ i. row.value (i + 1)) (value_words row) ∙ value_of_next row.value) t;
   begin_at = row.begin_at;
   accepted_at = row.accepted_at;
   end_at = row.end_at;
@@ -85,10 +85,10 @@ rows_read : (rows : List LogRow) → rows_of (words (log_words rows)) (length ro
 unfolding rows_of log_words
 rows_read [] = refl
 rows_read (row ∷ above) = λ t.
-    (rowOf_same (from (words (log_words above ++ row_words row)) (length above * row_size)) (words (row_words row))
+    (row_of_same (from (words (log_words above ++ row_words row)) (length above * row_size)) (words (row_words row))
     (λ i p. second_at_lem (log_words above) (row_words row) (length above * row_size) i (length-log above))
     ∙ row_read row) t
-    ∷ (rowsOf_same (words (log_words above ++ row_words row)) (words (log_words above)) (length above)
+    ∷ (rows_of_same (words (log_words above ++ row_words row)) (words (log_words above)) (length above)
     (λ i p. get_or-append (log_words above) (row_words row) 0 i (rw length-log p))
     ∙ rows_read above) t
 
@@ -104,12 +104,12 @@ cut_rises : (row : LogRow) (above : List LogRow) → Rises row above → Rises (
 cut_rises row [] h = tt
 cut_rises row (p ∷ above) h = h
 
-cut_inTurn : (row : LogRow) (i : ℕ) (above : List LogRow) → InTurn row (row_before i above) → InTurn (cut row) (row_before i (map cut above))
+cut_in_turn : (row : LogRow) (i : ℕ) (above : List LogRow) → InTurn row (row_before i above) → InTurn (cut row) (row_before i (map cut above))
 unfolding row_before
-cut_inTurn row i [] = λ h. tt
-cut_inTurn row i (p ∷ above) = split-both (λ x y. InTurn row x → InTurn (cut row) y) (eqb p.member i)
+cut_in_turn row i [] = λ h. tt
+cut_in_turn row i (p ∷ above) = split-both (λ x y. InTurn row x → InTurn (cut row) y) (eqb p.member i)
     (λ e h. h)
-    (λ e. cut_inTurn row i above)
+    (λ e. cut_in_turn row i above)
 
 cut_last : (r : ℕ) (above : List LogRow) → within 8 0 (last_written r above) ≡ last_written r (map cut above)
 unfolding last_written
@@ -127,7 +127,7 @@ cut_row n row above h = record {
   rises = cut_rises row above h.rises;
   begun = h.begun;
   ended = h.ended;
-  in_turn = cut_inTurn row row.member above h.in_turn;
+  in_turn = cut_in_turn row row.member above h.in_turn;
   reads = λ t e. ap (within 8 0) (h.reads t e) ∙ cut_last row.slot above;
 }
 

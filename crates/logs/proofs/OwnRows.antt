@@ -95,12 +95,12 @@ every_accepted P (o ∷ ops) h = split (Every P) o.accepted
     (λ a. (h.0, every_accepted P ops h.1))
     (λ a. every_accepted P ops h.1)
 
-inTurn_accepted : (ops : List Op) → InTurn ops → InTurn (accepted_of ops)
+in_turn_accepted : (ops : List Op) → InTurn ops → InTurn (accepted_of ops)
 unfolding accepted_of
-inTurn_accepted [] h = tt
-inTurn_accepted (o ∷ ops) h = split InTurn o.accepted
-    (λ a. (every_accepted (After o) ops h.0, inTurn_accepted ops h.1))
-    (λ a. inTurn_accepted ops h.1)
+in_turn_accepted [] h = tt
+in_turn_accepted (o ∷ ops) h = split InTurn o.accepted
+    (λ a. (every_accepted (After o) ops h.0, in_turn_accepted ops h.1))
+    (λ a. in_turn_accepted ops h.1)
 
 -- Operations that came one after the other, newest first, and the rows of their log.
 
@@ -166,5 +166,5 @@ module _ (kind : Kind) (n : ℕ) (calls : List Call) (boards : List Board) (seen
       let decided = (watched calls seen).decided in
       log-holds n (step_at calls seen) own_ranges (accepted_of decided)
       (every_accepted (Decided (step_at calls seen)) decided d.positions.decided)
-      (inTurn_accepted decided d.positions.in_turn)
+      (in_turn_accepted decided d.positions.in_turn)
       d.serial

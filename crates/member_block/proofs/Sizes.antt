@@ -7,7 +7,7 @@ use Rattle.lists.specs.Functions.{from, Within}
 use Rattle.lists.specs.Parts.{words}
 use Rattle.model.specs.RecordWords.{record_size, row_of}
 use Rattle.model.specs.Table.{own_at, accepted_at, last_at, pending_at, known_at, first_at, second_at, block_size, slot_at, member_of}
-use Rattle.laws.proofs.Records.{rowOf_at}
+use Rattle.laws.proofs.Records.{row_of_at}
 use Rattle.member_block.specs.Needs.{Running}
 
 pub head_room : (n : ℕ) → 5 ≤ block_size n
@@ -40,9 +40,9 @@ unfolding member_of
 running_slot n l r = r.slot
 
 -- the own count of slot k, by its word
-pub own_at : (n : ℕ) (w : ℕ → ℕ) (k : ℕ) → 1 ≤ k → k ≤ n → (member_of n w).own k ≡ w (own_at + k - 1)
+pub own_at_lem : (n : ℕ) (w : ℕ → ℕ) (k : ℕ) → 1 ≤ k → k ≤ n → (member_of n w).own k ≡ w (own_at + k - 1)
 unfolding member_of from
-own_at n w k p q =
+own_at_lem n w k p q =
     ap (row_of n (from w own_at)) (let e : k ≡ k - 1 + 1 = omega arith in e)
-    ∙ rowOf_at n (from w own_at) (k - 1) (omega arith)
+    ∙ row_of_at n (from w own_at) (k - 1) (omega arith)
     ∙ ap w (let e : own_at + (k - 1) ≡ own_at + k - 1 = omega arith in e)

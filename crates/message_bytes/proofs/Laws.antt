@@ -10,7 +10,7 @@ use Rattle.lists.proofs.Functions.{pasted_one, pasted_join, pasted_same, numbere
 use Rattle.lists.proofs.Parts.{words_set, words_more, tabulate-at}
 use Rattle.model.specs.RecordWords.{row_of, matrix_word, record_words}
 use Rattle.model.specs.Messages.{number_length, byte_parts, head_length, value_length, record_length, number_bytes, byte_in, record_byte}
-use Rattle.laws.proofs.Records.{square_small, row_within, row_next, matrix_word-at, head_words, value_words, matrix_words, valueOf_at}
+use Rattle.laws.proofs.Records.{square_small, row_within, row_next, matrix_word-at, head_words, value_words, matrix_words, value_of_at}
 use Rattle.laws.proofs.Messages.{byte_in-at, byte_in_from, byte_in-same, byte_first, byte_further}
 use Rattle.rows.specs.declared.Row.{Row}
 use Rattle.rows.specs.Meaning.{row_in, matrix_in, no_row}
@@ -115,7 +115,7 @@ module _ (n : ℕ) (r : Record) where
   value-bytes : (i : ℕ) → i < value_length → byte_in (words r.value) i ≡ record_byte held (head_length + i)
   unfolding held record_in
   value-bytes i h =
-      let e = value_words n (record_in r) (i / 4) (omega arith) ∙ valueOf_at (words r.value) (i / 4) (omega arith) in
+      let e = value_words n (record_in r) (i / 4) (omega arith) ∙ value_of_at (words r.value) (i / 4) (omega arith) in
       byte_in-same (words r.value) (from held 4) i (sym e)
       ∙ sym (byte_further held 1 i)
       ∙ ap (record_byte held) (let e : byte_parts + (1 * 4 + i) ≡ head_length + i = omega arith in e)

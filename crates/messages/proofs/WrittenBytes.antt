@@ -16,7 +16,7 @@ use Rattle.model.specs.Halves.{fit_record}
 use Rattle.model.specs.Messages.{Message, submit, reply, commit, outcome, kind_of, length_of, number_bytes, byte_in}
 use Rattle.model.specs.Messages.{record_byte, record_length, record_bytes, field_bytes, encode, fit_message, Bytes}
 use Rattle.laws.proofs.Records.{head_words}
-use Rattle.laws.proofs.Messages.{byte_first, byte_further, lengthOf_most, fit_small, encode_parts}
+use Rattle.laws.proofs.Messages.{byte_first, byte_further, length_of_most, fit_small, encode_parts}
 
 no_bytes : Bytes []
 no_bytes i = omega arith
@@ -90,7 +90,7 @@ bytes_fields n (outcome o) h e =
 pub bytes_encode : (n : ℕ) (m : Message) → n ≤ 12 → fit_message n m ≡ true → Bytes (encode n m)
 bytes_encode n m h e =
     let size = length_of (kind_of m) n in
-    let k = lengthOf_most (kind_of m) n h in
+    let k = length_of_most (kind_of m) n h in
     rw (encode_parts n m)
     (byte_more (size / 256) (size % 256 ∷ 1 ∷ kind_of m ∷ field_bytes n m) (omega arith)
     (byte_more (size % 256) (1 ∷ kind_of m ∷ field_bytes n m) (omega arith)

@@ -13,7 +13,7 @@ use Rattle.lists.proofs.Functions.{on, put_same, pasted_more, pasted_above, numb
 use Rattle.lists.proofs.Parts.{words_set, words_zeros, words_more, replaced_by}
 use Rattle.model.specs.Records.{zero_value, opening, zero_record}
 use Rattle.model.specs.RecordWords.{record_size, value_of, matrix_word, record_words}
-use Rattle.laws.proofs.Records.{row_next, matrix_word-at, length-record_words, value_words, matrix_words, valueOf_at}
+use Rattle.laws.proofs.Records.{row_next, matrix_word-at, length-record_words, value_words, matrix_words, value_of_at}
 use Rattle.rows.specs.declared.Row.{Row}
 use Rattle.rows.specs.Meaning.{matrix_in, no_row}
 use Rattle.rows.proofs.Laws.{zero_counts, zero_matrix_lem, count_at, row_at}
@@ -76,7 +76,7 @@ module _ (n : ℕ) (r : Record) (l : List ℕ) (a : ℕ) (fits : a + record_size
 
   value-place : (i : ℕ) → i < 8 → words r.value i ≡ wanted (4 + i)
   unfolding wanted record_in
-  value-place i h = sym (sym (from_at wanted 4 i) ∙ value_words n (record_in r) i h ∙ valueOf_at (words r.value) i h)
+  value-place i h = sym (sym (from_at wanted 4 i) ∙ value_words n (record_in r) i h ∙ value_of_at (words r.value) i h)
 
   matrix-place : (i : ℕ) → i < n * n → matrix_word n (matrix_in r.matrix) i ≡ wanted (12 + i)
   unfolding wanted record_in

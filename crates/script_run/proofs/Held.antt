@@ -22,7 +22,7 @@ use Rattle.model.specs.Table.{table_size, table_words}
 use Rattle.model.specs.TableCalls.{open_number, open_words, board_in, table_answer, table_after, table_returns, phase_words, table_seen}
 use Rattle.model.specs.Script.{Line, writes, reads, delivers, crashes, malformed, line_of, call_of, caller, stepped, step_line}
 use Rattle.model.specs.Script.{printed_line, last_word, printed_step, board_line, refused_line}
-use Rattle.laws.proofs.Records.{valueOf_same}
+use Rattle.laws.proofs.Records.{value_of_same}
 use Rattle.laws.proofs.Tables.{length-table, table_zero}
 use Rattle.runs.proofs.Words.{last_held}
 use Rattle.records.proofs.Laws.{zero_value_lem}
@@ -67,7 +67,7 @@ caller_for kind m a = on (eqb kind 1)
 pub value_last : (v : ℕ) → value_of (words (0 ∷ 0 ∷ 0 ∷ 0 ∷ 0 ∷ 0 ∷ 0 ∷ v ∷ [])) ≡ put zero_value 8 v
 unfolding tabulate put zero_value
 value_last v =
-    valueOf_same (words (0 ∷ 0 ∷ 0 ∷ 0 ∷ 0 ∷ 0 ∷ 0 ∷ v ∷ [])) (λ i. put zero_value 8 v (i + 1))
+    value_of_same (words (0 ∷ 0 ∷ 0 ∷ 0 ∷ 0 ∷ 0 ∷ 0 ∷ v ∷ [])) (λ i. put zero_value 8 v (i + 1))
     (tabulate-at 8 (λ i. put zero_value 8 v (i + 1)))
     ∙ last_held v
 

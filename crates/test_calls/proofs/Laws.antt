@@ -12,7 +12,7 @@ use Rattle.model.specs.Table.{value_size}
 use Rattle.model.specs.Halves.{member_begin_number, member_begin_words, host_number, submit_newest, submit_stored}
 use Rattle.model.specs.Messages.{Message as Wire, kind_of, write_number, writable, written_length}
 use Rattle.laws.proofs.Records.{length-record_words}
-use Rattle.laws.proofs.Messages.{length-encode, lengthOf_most, writable_of}
+use Rattle.laws.proofs.Messages.{length-encode, length_of_most, writable_of}
 use Rattle.records.specs.Meaning.{record_in}
 use Rattle.messages.specs.Meaning.{fields_in}
 use Rattle.messages.specs.declared.Message.{Message}
@@ -133,7 +133,7 @@ replied n l i r t {number} e p q =
 encoded_small : (n : ℕ) (m : Option Wire) → n ≤ 12 → written_length n m ≤ 1235
 unfolding written_length
 encoded_small n none h = omega arith
-encoded_small n (some m) h = omega (arith, length-encode n m, lengthOf_most (kind_of m) n h)
+encoded_small n (some m) h = omega (arith, length-encode n m, length_of_most (kind_of m) n h)
 
 pub written_small : (n : ℕ) (m : Option Wire) (room : ℕ) → written_length n (writable n m room) ≤ 1235
 unfolding writable written_length

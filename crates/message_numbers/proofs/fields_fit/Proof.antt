@@ -9,7 +9,7 @@ use Rattle.lists.specs.Functions.{inside}
 use Rattle.lists.specs.Parts.{words}
 use Rattle.lists.proofs.Functions.{inside_low, inside_high}
 use Rattle.model.specs.Messages.{record_length, length_of, fields_at, record_at}
-use Rattle.laws.proofs.Messages.{lengthOf_least, sized, fit_at, judged, judged_submit}
+use Rattle.laws.proofs.Messages.{length_of_least, sized, fit_at, judged, judged_submit}
 use Rattle.laws.proofs.Messages.{judged_outcome, judged_commit, judged_reply, judged_misnamed}
 use Rattle.laws.proofs.Tests.{refused, allowed}
 use Rattle.message_numbers.proofs.fields_fit.Statement.{statement}
@@ -21,7 +21,7 @@ abbrev bytes : tie.Start → ℕ → ℕ
 bytes s = words s.args.s.now
 
 long : (s : tie.Start) → 5 ≤ length s.args.s.now
-long s = omega (arith, s.requires.1.1.1, lengthOf_least (bytes s 3) s.args.n)
+long s = omega (arith, s.requires.1.1.1, length_of_least (bytes s 3) s.args.n)
 
 abbrev start : tie.After-wide → tie.Start
 start c = c.before.before.before

@@ -5,7 +5,7 @@ use mathlib.Core.Path.{◌≡◌, sym, ap, ◌∙◌}
 use native.Mathlib.Omega.{arith}
 use borrow.Author.Tests.{eq-eqb, ne_eqb}
 use Rattle.model.specs.Messages.{writable, written_length, written_to}
-use Rattle.laws.proofs.Messages.{lengthOf_most}
+use Rattle.laws.proofs.Messages.{length_of_most}
 use Rattle.messages.specs.Meaning.{Fields, fields_in, number_written}
 use Rattle.messages.proofs.Laws.{Taken, taken}
 use Rattle.messages.proofs.write.Statement.{statement}
@@ -43,7 +43,7 @@ length-of-requires c κs = let h = handed c in (h.kind_low, (h.kind_high, (h.low
 add-length : tie.Need-overflow-add-length
 add-length c =
     let a = (start c.before.before).args in
-    record { fits = omega (arith, c.length-of.ensures, lengthOf_most a.message.kind a.n (handed c.before).high) }
+    record { fits = omega (arith, c.length-of.ensures, length_of_most a.message.kind a.n (handed c.before).high) }
 
 returns-2 : tie.Need-returns-2
 unfolding writable fields_in

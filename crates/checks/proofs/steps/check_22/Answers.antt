@@ -20,7 +20,7 @@ use Rattle.laws.proofs.Tests.{walk_starts, walks-on, walk-stops, walk_ends}
 use Rattle.checks.proofs.Matrices.{row_of}
 use Rattle.checks.proofs.steps.check_22.Invariants.{test}
 use Rattle.checks.proofs.steps.check_22.Goals as goal
-use Rattle.checks.proofs.steps.check_22.Goals.{After-not_above-entry, After-struct_known-in-loop-k-1, At-loop-k, Start}
+use Rattle.checks.proofs.steps.check_22.Goals.{After-not_above-entry, At-loop-k}
 
 tested : (i : ℕ) (a b : Row) (k : ℕ) → k < 12 → {r : Bool} → r ≡ (eqb (k + 1) i || leb (words a.counts k) (words b.counts k))
     → r ≡ test i a b (k + 1)
@@ -31,37 +31,28 @@ by_rows : (known newest : List Row) (i r : ℕ) → 1 ≤ r → r ≤ 12
 by_rows known newest i r p q =
     ap₂ (λ f g k. eqb k i || leb (f k) (g k)) (sym (row_of known r p q)) (sym (row_of newest r p q))
 
-abbrev start : At-loop-k → Start
-start c = c.before.before.before
-
-abbrev at_loop : After-not_above-entry → At-loop-k
-at_loop c = c.before.before.before.before
-
-abbrev asked : After-struct_known-in-loop-k-1 → After-not_above-entry
-asked c = c.before.before
-
 -- the test of the loop, and the entry at hand
 abbrev test_at : At-loop-k → ℕ → Bool
-test_at c = let g = (start c).args in test g.member (get_or g.known (g.slot - 1) no_row) (get_or g.newest (g.slot - 1) no_row)
+test_at c = let g = c.args in test g.member (get_or g.known (g.slot - 1) no_row) (get_or g.newest (g.slot - 1) no_row)
 
-entry : (c : After-not_above-entry) → c.not_above-entry.result.passed ≡ test_at (at_loop c) ((at_loop c).loop-k.k + 1)
+entry : (c : After-not_above-entry) → c.not_above-entry.result.passed ≡ test_at c.before.before.before.before (c.loop-k.k + 1)
 entry c =
-    let g = (start (at_loop c)).args in
-    tested g.member (get_or g.known (g.slot - 1) no_row) (get_or g.newest (g.slot - 1) no_row) (at_loop c).loop-k.k (omega arith)
+    let g = c.args in
+    tested g.member (get_or g.known (g.slot - 1) no_row) (get_or g.newest (g.slot - 1) no_row) c.loop-k.k (omega arith)
     c.not_above-entry.ensures.passed_value
 
 most : (c : After-not_above-entry) → c.not_above-entry.result.pairs ≤ 1
-most c = rw c.not_above-entry.ensures.pairs_value (otherwise_most (start (at_loop c)).args.member 1 ((at_loop c).loop-k.k + 1))
+most c = rw c.not_above-entry.ensures.pairs_value (otherwise_most c.args.member 1 (c.loop-k.k + 1))
 
 -- what was found of the two rows is so of the matrices
 of_matrices : (c : At-loop-k) {r : Bool} {pairs : ℕ} →
-    let g = (start c).args in
+    let g = c.args in
     (r ≡ each g.n (test_at c)) × (pairs ≡ looked g.n (test_at c) (otherwise g.member 1))
     → (r ≡ check22 g.n g.member g.slot (matrix_in g.known) (matrix_in g.newest))
     × (pairs ≡ pairs22 g.n g.member g.slot (matrix_in g.known) (matrix_in g.newest))
 unfolding check22 pairs22
 of_matrices c h =
-    let g = (start c).args in
+    let g = c.args in
     let e = by_rows g.known g.newest g.member g.slot (omega arith) (omega arith) in
     (h.0 ∙ ap (each g.n) e, h.1 ∙ ap (λ t. looked g.n t (otherwise g.member 1)) e)
 
@@ -70,41 +61,33 @@ loop-k-init c = (search rules, walk_starts _ _ 1)
 
 pub returns-then-not-entry-clause-passed_value : goal.returns-then-not-entry-clause-passed_value
 returns-then-not-entry-clause-passed_value c =
-    let e = asked c.before in
-    let loop = at_loop e in
-    let g = (start loop).args in
-    (of_matrices loop
-    (walk-stops (test_at loop) (otherwise g.member 1) 1 loop.loop-k.invariant.1 (entry e) e.not_above-entry.ensures.pairs_value g.n (omega arith)
+    let g = c.args in
+    (of_matrices c.before.before.before.before.before.before.before
+    (walk-stops (test_at c.before.before.before.before.before.before.before) (otherwise g.member 1) 1 c.loop-k.invariant.1 (entry c.before.before.before) c.not_above-entry.ensures.pairs_value g.n (omega arith)
     c.if-not-entry.true)).0
 
 pub returns-then-not-entry-clause-pairs_value : goal.returns-then-not-entry-clause-pairs_value
 returns-then-not-entry-clause-pairs_value c =
-    let e = asked c.before in
-    let loop = at_loop e in
-    let g = (start loop).args in
-    (of_matrices loop
-    (walk-stops (test_at loop) (otherwise g.member 1) 1 loop.loop-k.invariant.1 (entry e) e.not_above-entry.ensures.pairs_value g.n (omega arith)
+    let g = c.args in
+    (of_matrices c.before.before.before.before.before.before.before
+    (walk-stops (test_at c.before.before.before.before.before.before.before) (otherwise g.member 1) 1 c.loop-k.invariant.1 (entry c.before.before.before) c.not_above-entry.ensures.pairs_value g.n (omega arith)
     c.if-not-entry.true)).1
 
 pub loop-k-preserved : goal.loop-k-preserved
 loop-k-preserved c =
-    let e = asked c.before in
-    let loop = at_loop e in
-    let g = (start loop).args in (
+    let g = c.args in (
       search rules,
-      walks-on (test_at loop) (otherwise g.member 1) 1 loop.loop-k.invariant.1 (entry e) e.not_above-entry.ensures.pairs_value (most e) c.if-not-entry.false,
+      walks-on (test_at c.before.before.before.before.before.before.before) (otherwise g.member 1) 1 c.loop-k.invariant.1 (entry c.before.before.before) c.not_above-entry.ensures.pairs_value (most c.before.before.before) c.if-not-entry.false,
     )
 
 pub returns-clause-passed_value : goal.returns-clause-passed_value
 returns-clause-passed_value c =
-    let loop = c.before in
-    let g = (start loop).args in
-    (of_matrices loop
-    (walk_ends (test_at loop) (otherwise g.member 1) 1 loop.loop-k.invariant.1 (let e : loop.loop-k.k ≡ g.n = omega arith in e))).0
+    let g = c.args in
+    (of_matrices c.before
+    (walk_ends (test_at c.before) (otherwise g.member 1) 1 c.loop-k.invariant.1 (let e : c.loop-k.k ≡ g.n = omega arith in e))).0
 
 pub returns-clause-pairs_value : goal.returns-clause-pairs_value
 returns-clause-pairs_value c =
-    let loop = c.before in
-    let g = (start loop).args in
-    (of_matrices loop
-    (walk_ends (test_at loop) (otherwise g.member 1) 1 loop.loop-k.invariant.1 (let e : loop.loop-k.k ≡ g.n = omega arith in e))).1
+    let g = c.args in
+    (of_matrices c.before
+    (walk_ends (test_at c.before) (otherwise g.member 1) 1 c.loop-k.invariant.1 (let e : c.loop-k.k ≡ g.n = omega arith in e))).1

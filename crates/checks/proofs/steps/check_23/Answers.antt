@@ -11,21 +11,15 @@ use Rattle.checks.proofs.steps.check_23.Goals as goal
 pub returns-clause-passed_value : goal.returns-clause-passed_value
 unfolding check23 pairs23
 returns-clause-passed_value c =
-    let row = c.before.before.before in
-    let a = row.before.args in
+    let a = c.args in
     rw (
       row_of a.newest a.slot (omega arith) (omega arith),
       count_of (get_or a.newest (a.slot - 1) no_row) a.member (omega arith) (omega arith),
       count_of a.accepted a.slot (omega arith) (omega arith),
-    ) c.equal.ensures
+    ) c.equal.ensures.passed_value
 
 pub returns-clause-pairs_value : goal.returns-clause-pairs_value
 unfolding check23 pairs23
 returns-clause-pairs_value c =
-    let row = c.before.before.before in
-    let a = row.before.args in
-    rw (
-      row_of a.newest a.slot (omega arith) (omega arith),
-      count_of (get_or a.newest (a.slot - 1) no_row) a.member (omega arith) (omega arith),
-      count_of a.accepted a.slot (omega arith) (omega arith),
-    ) c.equal.ensures
+    let a = c.args in
+    c.equal.ensures.pairs_value

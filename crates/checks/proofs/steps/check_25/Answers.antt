@@ -14,29 +14,26 @@ use Rattle.rows.specs.Meaning.{matrix_in, no_row}
 use Rattle.laws.proofs.Records.{square_small}
 use Rattle.checks.proofs.Matrices.{row_of, count_of}
 use Rattle.checks.proofs.steps.check_25.Goals as goal
-use Rattle.checks.proofs.steps.check_25.Goals.{After-equal-entry, After-matrix_below-rows, After-struct_known-1, After-struct_known-3-1, Start}
-
-abbrev start : After-matrix_below-rows → Start
-start c = c.before
+use Rattle.checks.proofs.steps.check_25.Goals.{After-equal-entry, After-matrix_below-rows}
 
 -- what the rows answered, over the first n of each
-rows : (c : After-matrix_below-rows) → let a = (start c).args in c.matrix_below-rows.result.passed
+rows : (c : After-matrix_below-rows) → let a = c.args in c.matrix_below-rows.result.passed
     ≡ matrix_below a.n (matrix_in a.stored) (matrix_in a.newest)
 rows c =
-    let a = (start c).args in
+    let a = c.args in
     c.matrix_below-rows.ensures.passed_value
     ∙ ap (λ n. matrix_below n (matrix_in a.stored) (matrix_in a.newest)) (let m : min a.n 12 ≡ a.n = omega arith in m)
 
-row_pairs : (c : After-matrix_below-rows) → let a = (start c).args in c.matrix_below-rows.result.pairs
+row_pairs : (c : After-matrix_below-rows) → let a = c.args in c.matrix_below-rows.result.pairs
     ≡ row_pairs25 a.n (matrix_in a.stored) (matrix_in a.newest)
 row_pairs c =
-    let a = (start c).args in
+    let a = c.args in
     c.matrix_below-rows.ensures.pairs_value
     ∙ ap (λ n. row_pairs25 n (matrix_in a.stored) (matrix_in a.newest)) (let m : min a.n 12 ≡ a.n = omega arith in m)
 
 few : (c : After-matrix_below-rows) → c.matrix_below-rows.result.pairs ≤ 144
 few c =
-    let a = (start c).args in
+    let a = c.args in
     omega (arith, row_pairs c, row_pairs25-most a.n (matrix_in a.stored) (matrix_in a.newest), square_small a.n (omega arith))
 
 -- the pair at r in row r, looked at only where the rows are in order
@@ -48,35 +45,26 @@ one : (p : Bool) → ◌≡◌ {A = ℕ} (cond (not p) 0 1) (cond p 1 0)
 one true = refl
 one false = refl
 
-abbrev compared : After-struct_known-3-1 → After-equal-entry
-compared c = c.before.before
-
-abbrev read : After-equal-entry → After-struct_known-1
-read c = c.before.before.before
-
-abbrev below : After-struct_known-1 → After-matrix_below-rows
-below c = c.before.before.before
-
 abbrev ordered : After-equal-entry → Bool
-ordered c = let a = (start (below (read c))).args in matrix_below a.n (matrix_in a.stored) (matrix_in a.newest)
+ordered c = let a = c.args in matrix_below a.n (matrix_in a.stored) (matrix_in a.newest)
 
 abbrev agrees : After-equal-entry → Bool
-agrees c = let a = (start (below (read c))).args in eqb (matrix_in a.stored a.slot a.slot) (matrix_in a.newest a.slot a.slot)
+agrees c = let a = c.args in eqb (matrix_in a.stored a.slot a.slot) (matrix_in a.newest a.slot a.slot)
 
 -- the two counts are those of the matrices
 entry : (c : After-equal-entry) → c.equal-entry.result.passed ≡ (not (ordered c) || agrees c)
 entry c =
-    let a = (start (below (read c))).args in
+    let a = c.args in
     rw (
       row_of a.stored a.slot (omega arith) (omega arith),
       row_of a.newest a.slot (omega arith) (omega arith),
       count_of (get_or a.stored (a.slot - 1) no_row) a.slot (omega arith) (omega arith),
       count_of (get_or a.newest (a.slot - 1) no_row) a.slot (omega arith) (omega arith),
-      ← rows (below (read c)),
+      ← rows c.before.before.before.before.before.before,
     ) c.equal-entry.ensures.passed_value
 
 pair : (c : After-equal-entry) → c.equal-entry.result.pairs ≡ cond (ordered c) 1 0
-pair c = c.equal-entry.ensures.pairs_value ∙ ap (λ p. cond (not p) 0 1) (rows (below (read c))) ∙ one (ordered c)
+pair c = c.equal-entry.ensures.pairs_value ∙ ap (λ p. cond (not p) 0 1) (rows c.before.before.before.before.before.before) ∙ one (ordered c)
 
 at_most_one : (p : Bool) {k : ℕ} → k ≡ cond p 1 0 → k ≤ 1
 at_most_one true e = omega arith
@@ -84,25 +72,12 @@ at_most_one false e = omega arith
 
 pub overflow_add-pairs : goal.overflow_add-pairs
 overflow_add-pairs c =
-    let last = compared c in
-    omega (arith, few (below (read last)), at_most_one (ordered last) (pair last))
+    omega (arith, few c.before.before.before.before.before.before.before.before, at_most_one (ordered c.before.before) (pair c.before.before))
 
 pub returns-clause-passed_value : goal.returns-clause-passed_value
 unfolding check25 pairs25
-returns-clause-passed_value c =
-    let last = compared c.before.before in
-    let order = below (read last) in
-    ((
-      ap₂ (λ p q. p && q) (rows order) (entry last) ∙ both (ordered last) (agrees last),
-      ap₂ (λ p q. p + q) (row_pairs order) (pair last),
-    )).0
+returns-clause-passed_value c = ap₂ (λ p q. p && q) (rows c.before.before.before.before.before.before.before.before.before.before) (entry c.before.before.before.before) ∙ both (ordered c.before.before.before.before) (agrees c.before.before.before.before)
 
 pub returns-clause-pairs_value : goal.returns-clause-pairs_value
 unfolding check25 pairs25
-returns-clause-pairs_value c =
-    let last = compared c.before.before in
-    let order = below (read last) in
-    ((
-      ap₂ (λ p q. p && q) (rows order) (entry last) ∙ both (ordered last) (agrees last),
-      ap₂ (λ p q. p + q) (row_pairs order) (pair last),
-    )).1
+returns-clause-pairs_value c = ap₂ (λ p q. p + q) (row_pairs c.before.before.before.before.before.before.before.before.before.before) (pair c.before.before.before.before)

@@ -1,7 +1,7 @@
 -- `check_26` meets its contract: each row passed is the slot's, or known and newest are comparable there; and the pairs are those of the
 -- rows looked at. Assumes nothing.
 use borrow.Author.Rules.{rules}
-use Prim.Native.Nat.{ℕ, ◌+◌, ◌-◌, ◌≤◌, ◌<◌, min}
+use Prim.Native.Nat.{ℕ, ◌+◌, ◌≤◌, ◌<◌, min}
 use mathlib.Core.Path.{◌≡◌, ap, ◌∙◌}
 use mathlib.Core.Bool.{Bool, cond, ◌||◌}
 use mathlib.Core.List.{List}
@@ -18,7 +18,7 @@ use Rattle.rows.proofs.Laws.{row_at}
 use Rattle.laws.proofs.Tests.{walk_starts, walks-on, walk-stops, walk_ends}
 use Rattle.checks.proofs.steps.check_26.Invariants.{test}
 use Rattle.checks.proofs.steps.check_26.Goals as goal
-use Rattle.checks.proofs.steps.check_26.Goals.{After-in_order-row, After-struct_known-in-loop-j-1, At-loop-j, Start}
+use Rattle.checks.proofs.steps.check_26.Goals.{After-in_order-row, At-loop-j}
 
 tested : (n i : ℕ) (known newest : List Row) (j : ℕ) → n ≤ 12 → j < 12
     → {r : Bool} → r ≡ (eqb (j + 1) i || comparable (min n 12) (row_in (get_or known j no_row)) (row_in (get_or newest j no_row)))
@@ -27,36 +27,27 @@ tested n i known newest j p h e =
     let m : min n 12 ≡ n = omega arith in
     rw (row_at known j h, row_at newest j h) (rw m at e)
 
-abbrev start : At-loop-j → Start
-start c = c.before
-
-abbrev at_loop : After-in_order-row → At-loop-j
-at_loop c = c.before.before.before.before
-
-abbrev asked : After-struct_known-in-loop-j-1 → After-in_order-row
-asked c = c.before.before
-
 -- the test of the loop, and the row at hand
 abbrev test_at : At-loop-j → ℕ → Bool
-test_at c = let g = (start c).args in test g.n g.slot g.known g.newest
+test_at c = let g = c.args in test g.n g.slot g.known g.newest
 
-row : (c : After-in_order-row) → c.in_order-row.result.passed ≡ test_at (at_loop c) ((at_loop c).loop-j.j + 1)
+row : (c : After-in_order-row) → c.in_order-row.result.passed ≡ test_at c.before.before.before.before (c.loop-j.j + 1)
 row c =
-    let g = (start (at_loop c)).args in
-    tested g.n g.slot g.known g.newest (at_loop c).loop-j.j (omega arith) (omega arith) c.in_order-row.ensures.passed_value
+    let g = c.args in
+    tested g.n g.slot g.known g.newest c.loop-j.j (omega arith) (omega arith) c.in_order-row.ensures.passed_value
 
 pairs : (c : After-in_order-row) →
-    let g = (start (at_loop c)).args in
-    c.in_order-row.result.pairs ≡ otherwise g.slot g.n ((at_loop c).loop-j.j + 1)
+    let g = c.args in
+    c.in_order-row.result.pairs ≡ otherwise g.slot g.n (c.loop-j.j + 1)
 pairs c =
-    let g = (start (at_loop c)).args in
+    let g = c.args in
     c.in_order-row.ensures.pairs_value
-    ∙ ap (λ k. cond (eqb ((at_loop c).loop-j.j + 1) g.slot) 0 k) (let m : min g.n 12 ≡ g.n = omega arith in m)
+    ∙ ap (λ k. cond (eqb (c.loop-j.j + 1) g.slot) 0 k) (let m : min g.n 12 ≡ g.n = omega arith in m)
 
 most : (c : After-in_order-row) → c.in_order-row.result.pairs ≤ 12
 most c =
-    let g = (start (at_loop c)).args in
-    omega (arith, pairs c, otherwise_most g.slot g.n ((at_loop c).loop-j.j + 1))
+    let g = c.args in
+    omega (arith, pairs c, otherwise_most g.slot g.n (c.loop-j.j + 1))
 
 pub loop-j-init : goal.loop-j-init
 loop-j-init c = (search rules, walk_starts _ _ 12)
@@ -64,38 +55,30 @@ loop-j-init c = (search rules, walk_starts _ _ 12)
 pub returns-then-not-row-clause-passed_value : goal.returns-then-not-row-clause-passed_value
 unfolding check26 pairs26
 returns-then-not-row-clause-passed_value c =
-    let e = asked c.before in
-    let loop = at_loop e in
-    let g = (start loop).args in
-    (walk-stops (test_at loop) (otherwise g.slot g.n) 12 loop.loop-j.invariant.1 (row e) (pairs e) g.n (omega arith) c.if-not-row.true).0
+    let g = c.args in
+    (walk-stops (test_at c.before.before.before.before.before.before.before) (otherwise g.slot g.n) 12 c.loop-j.invariant.1 (row c.before.before.before) (pairs c.before.before.before) g.n (omega arith) c.if-not-row.true).0
 
 pub returns-then-not-row-clause-pairs_value : goal.returns-then-not-row-clause-pairs_value
 unfolding check26 pairs26
 returns-then-not-row-clause-pairs_value c =
-    let e = asked c.before in
-    let loop = at_loop e in
-    let g = (start loop).args in
-    (walk-stops (test_at loop) (otherwise g.slot g.n) 12 loop.loop-j.invariant.1 (row e) (pairs e) g.n (omega arith) c.if-not-row.true).1
+    let g = c.args in
+    (walk-stops (test_at c.before.before.before.before.before.before.before) (otherwise g.slot g.n) 12 c.loop-j.invariant.1 (row c.before.before.before) (pairs c.before.before.before) g.n (omega arith) c.if-not-row.true).1
 
 pub loop-j-preserved : goal.loop-j-preserved
 loop-j-preserved c =
-    let e = asked c.before in
-    let loop = at_loop e in
-    let g = (start loop).args in (
+    let g = c.args in (
       search rules,
-      walks-on (test_at loop) (otherwise g.slot g.n) 12 loop.loop-j.invariant.1 (row e) (pairs e) (most e) c.if-not-row.false,
+      walks-on (test_at c.before.before.before.before.before.before.before) (otherwise g.slot g.n) 12 c.loop-j.invariant.1 (row c.before.before.before) (pairs c.before.before.before) (most c.before.before.before) c.if-not-row.false,
     )
 
 pub returns-clause-passed_value : goal.returns-clause-passed_value
 unfolding check26 pairs26
 returns-clause-passed_value c =
-    let loop = c.before in
-    let g = (start loop).args in
-    (walk_ends (test_at loop) (otherwise g.slot g.n) 12 loop.loop-j.invariant.1 (let e : loop.loop-j.j ≡ g.n = omega arith in e)).0
+    let g = c.args in
+    (walk_ends (test_at c.before) (otherwise g.slot g.n) 12 c.loop-j.invariant.1 (let e : c.loop-j.j ≡ g.n = omega arith in e)).0
 
 pub returns-clause-pairs_value : goal.returns-clause-pairs_value
 unfolding check26 pairs26
 returns-clause-pairs_value c =
-    let loop = c.before in
-    let g = (start loop).args in
-    (walk_ends (test_at loop) (otherwise g.slot g.n) 12 loop.loop-j.invariant.1 (let e : loop.loop-j.j ≡ g.n = omega arith in e)).1
+    let g = c.args in
+    (walk_ends (test_at c.before) (otherwise g.slot g.n) 12 c.loop-j.invariant.1 (let e : c.loop-j.j ≡ g.n = omega arith in e)).1

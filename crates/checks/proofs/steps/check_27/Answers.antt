@@ -19,41 +19,26 @@ use Rattle.laws.proofs.Tests.{walk_starts, walks-on, walk-stops, walk_ends}
 use Rattle.checks.proofs.Matrices.{count_of}
 use Rattle.checks.proofs.steps.check_27.Invariants.{test}
 use Rattle.checks.proofs.steps.check_27.Goals as goal
-use Rattle.checks.proofs.steps.check_27.Goals.{After-not_above-count, After-struct_known-in-loop-j-1, At-loop-j, In-loop-j, Start}
+use Rattle.checks.proofs.steps.check_27.Goals.{After-not_above-count, At-loop-j}
 
 tested : (i r : ℕ) (accepted : Row) (newest : List Row) (j : ℕ) → 1 ≤ i → i ≤ 12 → j < 12
     → {b : Bool} → b ≡ (eqb (j + 1) r || leb (words (get_or newest j no_row).counts (i - 1)) (words accepted.counts j))
     → b ≡ test i r accepted newest (j + 1)
 tested i r accepted newest j p q h e = rw (row_at newest j h, count_of (get_or newest j no_row) i p q, count_at accepted j h) e
 
-abbrev start : At-loop-j → Start
-start c = c.before
-
-abbrev at_loop : In-loop-j → At-loop-j
-at_loop c = c.before
-
-abbrev at_in_loop : After-not_above-count → In-loop-j
-at_in_loop c = c.before.before.before.before
-
-abbrev asked : After-struct_known-in-loop-j-1 → After-not_above-count
-asked c = c.before.before
-
 -- the test of the loop, and the entry at hand
 abbrev test_at : At-loop-j → ℕ → Bool
-test_at c = let g = (start c).args in test g.member g.slot g.accepted g.newest
+test_at c = let g = c.args in test g.member g.slot g.accepted g.newest
 
 entry : (c : After-not_above-count) →
-    let loop = at_loop (at_in_loop c) in
-    c.not_above-count.result.passed ≡ test_at loop (loop.loop-j.j + 1)
+    c.not_above-count.result.passed ≡ test_at c.before.before.before.before.before (c.loop-j.j + 1)
 entry c =
-    let loop = at_loop (at_in_loop c) in
-    let g = (start loop).args in
-    tested g.member g.slot g.accepted g.newest loop.loop-j.j (omega arith) (omega arith) (omega arith) c.not_above-count.ensures.passed_value
+    let g = c.args in
+    tested g.member g.slot g.accepted g.newest c.loop-j.j (omega arith) (omega arith) (omega arith) c.not_above-count.ensures.passed_value
 
 most : (c : After-not_above-count) → c.not_above-count.result.pairs ≤ 1
 most c =
-    let loop = at_loop (at_in_loop c) in
-    rw c.not_above-count.ensures.pairs_value (otherwise_most (start loop).args.slot 1 (loop.loop-j.j + 1))
+    rw c.not_above-count.ensures.pairs_value (otherwise_most c.args.slot 1 (c.loop-j.j + 1))
 
 pub loop-j-init : goal.loop-j-init
 loop-j-init c = (search rules, walk_starts _ _ 1)
@@ -61,40 +46,32 @@ loop-j-init c = (search rules, walk_starts _ _ 1)
 pub returns-then-not-count-clause-passed_value : goal.returns-then-not-count-clause-passed_value
 unfolding check27 pairs27
 returns-then-not-count-clause-passed_value c =
-    let e = asked c.before in
-    let loop = at_loop (at_in_loop e) in
-    let g = (start loop).args in
-    (walk-stops (test_at loop) (otherwise g.slot 1) 1 loop.loop-j.invariant.1 (entry e) e.not_above-count.ensures.pairs_value g.n (omega arith)
+    let g = c.args in
+    (walk-stops (test_at c.before.before.before.before.before.before.before.before) (otherwise g.slot 1) 1 c.loop-j.invariant.1 (entry c.before.before.before) c.not_above-count.ensures.pairs_value g.n (omega arith)
     c.if-not-count.true).0
 
 pub returns-then-not-count-clause-pairs_value : goal.returns-then-not-count-clause-pairs_value
 unfolding check27 pairs27
 returns-then-not-count-clause-pairs_value c =
-    let e = asked c.before in
-    let loop = at_loop (at_in_loop e) in
-    let g = (start loop).args in
-    (walk-stops (test_at loop) (otherwise g.slot 1) 1 loop.loop-j.invariant.1 (entry e) e.not_above-count.ensures.pairs_value g.n (omega arith)
+    let g = c.args in
+    (walk-stops (test_at c.before.before.before.before.before.before.before.before) (otherwise g.slot 1) 1 c.loop-j.invariant.1 (entry c.before.before.before) c.not_above-count.ensures.pairs_value g.n (omega arith)
     c.if-not-count.true).1
 
 pub loop-j-preserved : goal.loop-j-preserved
 loop-j-preserved c =
-    let e = asked c.before in
-    let loop = at_loop (at_in_loop e) in
-    let g = (start loop).args in (
+    let g = c.args in (
       search rules,
-      walks-on (test_at loop) (otherwise g.slot 1) 1 loop.loop-j.invariant.1 (entry e) e.not_above-count.ensures.pairs_value (most e) c.if-not-count.false,
+      walks-on (test_at c.before.before.before.before.before.before.before.before) (otherwise g.slot 1) 1 c.loop-j.invariant.1 (entry c.before.before.before) c.not_above-count.ensures.pairs_value (most c.before.before.before) c.if-not-count.false,
     )
 
 pub returns-clause-passed_value : goal.returns-clause-passed_value
 unfolding check27 pairs27
 returns-clause-passed_value c =
-    let loop = c.before in
-    let g = (start loop).args in
-    (walk_ends (test_at loop) (otherwise g.slot 1) 1 loop.loop-j.invariant.1 (let e : loop.loop-j.j ≡ g.n = omega arith in e)).0
+    let g = c.args in
+    (walk_ends (test_at c.before) (otherwise g.slot 1) 1 c.loop-j.invariant.1 (let e : c.loop-j.j ≡ g.n = omega arith in e)).0
 
 pub returns-clause-pairs_value : goal.returns-clause-pairs_value
 unfolding check27 pairs27
 returns-clause-pairs_value c =
-    let loop = c.before in
-    let g = (start loop).args in
-    (walk_ends (test_at loop) (otherwise g.slot 1) 1 loop.loop-j.invariant.1 (let e : loop.loop-j.j ≡ g.n = omega arith in e)).1
+    let g = c.args in
+    (walk_ends (test_at c.before) (otherwise g.slot 1) 1 c.loop-j.invariant.1 (let e : c.loop-j.j ≡ g.n = omega arith in e)).1

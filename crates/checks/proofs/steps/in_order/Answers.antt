@@ -5,10 +5,5 @@ use Rattle.checks.proofs.steps.in_order.Goals as goal
 
 pub returns-clause-passed_value : goal.returns-clause-passed_value
 returns-clause-passed_value c =
-    let compared = c.before in
-    let left = compared.before in
-    let a = left.before.args in
-    rw left.if-skipped.false (
-      answer_comparable (min a.n 12) a.a a.b compared.compare-rows.ensures.answer_value c.crossed.ensures,
-      compared.compare-rows.ensures.pairs_value,
-    )
+    let a = c.args in
+    rw c.if-skipped.false (answer_comparable (min a.n 12) a.a a.b c.compare-rows.ensures.answer_value c.crossed.ensures)

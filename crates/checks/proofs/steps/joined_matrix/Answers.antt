@@ -7,29 +7,21 @@ use lib.ListN.{get_or, length-set}
 use Rattle.lists.specs.Functions.{put}
 use Rattle.lists.proofs.Functions.{pasted_none}
 use Rattle.lists.proofs.Parts.{seen_more}
-use Rattle.model.specs.Rows.{zero_matrix, larger}
+use Rattle.model.specs.Rows.{zero_matrix}
 use Rattle.model.proofs.Rows.{with_count_in}
 use Rattle.rows.specs.Meaning.{row_in, matrix_in, no_row}
 use Rattle.rows.proofs.Laws.{zero_rows, row_at}
 use Rattle.checks.proofs.Matrices.{row_of, joined_rows}
 use Rattle.checks.proofs.steps.joined_matrix.Invariants.{row}
 use Rattle.checks.proofs.steps.joined_matrix.Goals as goal
-use Rattle.checks.proofs.steps.joined_matrix.Goals.{At-loop-j, In-loop-j, Start}
-
-abbrev start : At-loop-j → Start
-start c = c.before
-
-abbrev at_loop : In-loop-j → At-loop-j
-at_loop c = c.before
 
 pub loop-j-init : goal.loop-j-init
 loop-j-init c = (search rules, (refl, zero_rows ∙ sym (pasted_none 0 _ _)))
 
 pub loop-j-preserved : goal.loop-j-preserved
 loop-j-preserved c =
-    let loop = at_loop c.before.before.before in
-    let a = (start loop).args in
-    let l = loop.loop-j in
+    let a = c.args in
+    let l = c.loop-j in
     let m : min a.n 12 ≡ a.n = omega arith in (
       search rules,
       (
@@ -42,8 +34,8 @@ loop-j-preserved c =
 
 pub returns : goal.returns
 returns c =
-    let a = (start c.before.before.before).args in
-    let l = c.before.before.before.loop-j in
+    let a = c.args in
+    let l = c.loop-j in
     let e : l.j ≡ a.n = omega arith in
     joined_rows l.matrix c.with.result a.n a.member a.slot a.count (matrix_in a.known) (matrix_in a.newest)
     (omega arith) (omega arith) (omega arith) l.invariant.1.0 (rw e at l.invariant.1.1)

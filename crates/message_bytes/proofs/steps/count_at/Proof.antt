@@ -7,7 +7,7 @@ use Rattle.lists.specs.Functions.{from}
 use Rattle.lists.specs.Parts.{words}
 use Rattle.lists.proofs.Functions.{pasted_in, pasted_above}
 use Rattle.model.specs.Messages.{number_in}
-use Rattle.laws.proofs.Messages.{numberIn_at}
+use Rattle.laws.proofs.Messages.{number_in_at}
 use Rattle.message_bytes.proofs.steps.count_at.Statement.{statement}
 use Rattle.message_bytes.proofs.steps.count_at.Tie as tie
 
@@ -17,7 +17,7 @@ returns c =
     let g = number_in (from (words a.s.now) a.at) in
     let e : a.i ≡ a.i - 0 = omega arith in
     c.read_number.ensures
-    ∙ sym (numberIn_at (words a.s.now) a.at a.i)
+    ∙ sym (number_in_at (words a.s.now) a.at a.i)
     ∙ ap g e
     ∙ sym (pasted_in 0 a.n g (λ k. 0) a.i (omega arith) (omega arith))
 

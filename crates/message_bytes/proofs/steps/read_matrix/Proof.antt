@@ -11,7 +11,7 @@ use Rattle.lists.proofs.Parts.{seen, seen_more}
 use Rattle.model.specs.Rows.{Row, zero_matrix}
 use Rattle.model.specs.RecordWords.{row_of, matrix_of}
 use Rattle.model.specs.Messages.{number_in}
-use Rattle.laws.proofs.Messages.{numberIn_from}
+use Rattle.laws.proofs.Messages.{number_in_from}
 use Rattle.rows.specs.Meaning.{row_in, no_row}
 use Rattle.rows.proofs.Laws.{zero_rows, matrix_read}
 use Rattle.message_bytes.proofs.Laws.{RowFits, row_fits}
@@ -46,7 +46,7 @@ loop-again c =
     let read : row_in c.read-row.result ≡ row a.n (from w a.at) l.j =
     c.read-row.ensures
     ∙ ap (λ f. row_of a.n (number_in f)) (sym (from_from w a.at (l.j * a.n * 4)))
-    ∙ ap (row_of a.n) (sym (numberIn_from (from w a.at) (l.j * a.n))) in (
+    ∙ ap (row_of a.n) (sym (number_in_from (from w a.at) (l.j * a.n))) in (
       search rules,
       (
         simp length-set (omega arith),

@@ -10,8 +10,8 @@ use Rattle.lists.proofs.Parts.{words_zeros, words_more}
 use Rattle.lists.proofs.Functions.{pasted_none, pasted_in}
 use Rattle.model.specs.RecordWords.{value_of}
 use Rattle.model.specs.Messages.{number_in}
-use Rattle.laws.proofs.Records.{valueOf_same}
-use Rattle.laws.proofs.Messages.{numberIn_at}
+use Rattle.laws.proofs.Records.{value_of_same}
+use Rattle.laws.proofs.Messages.{number_in_at}
 use Rattle.message_bytes.proofs.steps.read_value.Statement.{statement}
 use Rattle.message_bytes.proofs.steps.read_value.Tie as tie
 
@@ -29,7 +29,7 @@ loop-again c =
     let head = c.before.before in
     let a = head.before.before.args in
     let l = head.loop in
-    let read = c.read_number.ensures ∙ sym (numberIn_at (words a.s.now) a.at l.i) in (
+    let read = c.read_number.ensures ∙ sym (number_in_at (words a.s.now) a.at l.i) in (
       search rules,
       (
         simp length-set (omega arith),
@@ -45,7 +45,7 @@ returns c =
     let e : l.i ≡ 8 = omega arith in
     let w : ℕ → ℕ = number_in (from (words a.s.now) a.at) in
     ap value_of (rw e at l.invariant.1.1)
-    ∙ valueOf_same (pasted 0 8 w (λ k. 0)) w (λ i h. pasted_in 0 8 w (λ k. 0) i (omega arith) (omega arith) ∙ ap w (omega arith))
+    ∙ value_of_same (pasted 0 8 w (λ k. 0)) w (λ i h. pasted_in 0 8 w (λ k. 0) i (omega arith) (omega arith) ∙ ap w (omega arith))
 
 pub read-value-spec : {M : Type 1} → statement M
 read-value-spec =

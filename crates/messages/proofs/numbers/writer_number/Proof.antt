@@ -10,7 +10,7 @@ use borrow.Author.Tests.{lt-ltb, le-ltb}
 use Rattle.lists.specs.Functions.{inside}
 use Rattle.lists.proofs.Functions.{inside_high}
 use Rattle.model.specs.Messages.{fit_given, written_length, write_number}
-use Rattle.laws.proofs.Messages.{length-asked, lengthOf_most}
+use Rattle.laws.proofs.Messages.{length-asked, length_of_most}
 use Rattle.laws.proofs.Tests.{refused, allowed}
 use Rattle.messages.specs.Meaning.{Fields, fields_in, message_of}
 use Rattle.messages.proofs.Laws.{given_kind, given_length}
@@ -73,7 +73,7 @@ add-size : tie.Need-overflow-add-size
 add-size c =
     let a = (start2 c.before).args in
     let high = inside_high 12 a.n (numbered c.before.before.before) in
-    record { fits = omega (arith, c.length-of.ensures, lengthOf_most a.message.kind a.n high) }
+    record { fits = omega (arith, c.length-of.ensures, length_of_most a.message.kind a.n high) }
 
 returns-3 : tie.Need-returns-3
 returns-3 c = sym (past2 c.before.before ∙ rw (long c.before, lt-ltb _ _ c.if3.true))

@@ -7,7 +7,7 @@ use native.Mathlib.Omega.{arith}
 use lib.ListN.{length}
 use Rattle.lists.specs.Parts.{words}
 use Rattle.model.specs.Messages.{Message, length_of, record_length}
-use Rattle.laws.proofs.Messages.{Readable, lengthOf_least, sized, readable, from_submit, from_reply, from_commit, from_outcome}
+use Rattle.laws.proofs.Messages.{Readable, length_of_least, sized, readable, from_submit, from_reply, from_commit, from_outcome}
 use Rattle.messages.specs.declared.Message.{Message as MessageStruct}
 use Rattle.messages.specs.Meaning.{Holds, fields_in, fields_of}
 use Rattle.messages.proofs.reader.read_message.Statement.{statement}
@@ -22,7 +22,7 @@ taken : (s : tie.Start) → Readable s.args.n s.args.s.now
 taken s = readable s.args.n s.args.s.now s.requires
 
 long : (s : tie.Start) → 5 ≤ length s.args.s.now
-long s = omega (arith, (taken s).whole, lengthOf_least (words s.args.s.now 3) s.args.n)
+long s = omega (arith, (taken s).whole, length_of_least (words s.args.s.now 3) s.args.n)
 
 abbrev start : tie.After-wide → tie.Start
 start c = c.before.before.before

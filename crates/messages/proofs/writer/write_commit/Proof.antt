@@ -3,7 +3,7 @@ use borrow.Author.Rules.{rules}
 use mathlib.Core.Path.{refl, sym, ◌∙◌}
 use native.Mathlib.Omega.{arith}
 use Rattle.model.specs.Messages.{length_of, record_at}
-use Rattle.laws.proofs.Messages.{lengthOf_most, heading, commit_parts}
+use Rattle.laws.proofs.Messages.{length_of_most, heading, commit_parts}
 use Rattle.records.specs.Meaning.{record_in}
 use Rattle.messages.proofs.Laws.{fronted_same, headed, fronted_record}
 use Rattle.messages.proofs.writer.write_commit.Statement.{statement}
@@ -21,7 +21,7 @@ heads c = c.before.before.before
 
 write-heading-requires : tie.Need-write-heading-requires
 write-heading-requires c κs =
-    (omega arith, omega (arith, c.length-of.ensures, lengthOf_most 3 (start c).args.n (start c).requires.1.0))
+    (omega arith, omega (arith, c.length-of.ensures, length_of_most 3 (start c).args.n (start c).requires.1.0))
 
 write-record-requires : tie.Need-write-record-requires
 write-record-requires c κs =

@@ -6,7 +6,7 @@ use mathlib.Core.List.{◌++◌}
 use native.Mathlib.Omega.{arith}
 use lib.ListN.{length}
 use Rattle.model.specs.Messages.{length_of, record_at, record_bytes}
-use Rattle.laws.proofs.Messages.{lengthOf_most, length-record_bytes, heading, reply_parts}
+use Rattle.laws.proofs.Messages.{length_of_most, length-record_bytes, heading, reply_parts}
 use Rattle.records.specs.Meaning.{record_in}
 use Rattle.messages.specs.Meaning.{Fronted}
 use Rattle.messages.proofs.Laws.{fronted_same, headed, fronted_record}
@@ -44,7 +44,7 @@ first c = c.before.before.before
 
 write-heading-requires : tie.Need-write-heading-requires
 write-heading-requires c κs =
-    (omega arith, omega (arith, c.length-of.ensures, lengthOf_most 2 (start c).args.n (start c).requires.1.0))
+    (omega arith, omega (arith, c.length-of.ensures, length_of_most 2 (start c).args.n (start c).requires.1.0))
 
 write-record-requires : tie.Need-write-record-requires
 write-record-requires c κs =

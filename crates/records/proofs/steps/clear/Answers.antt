@@ -1,6 +1,6 @@
 -- `clear` meets its contract: i words are zero, the others as they were. Assumes nothing.
 use borrow.Author.Rules.{rules}
-use Prim.Native.Nat.{◌+◌, ◌-◌}
+use Prim.Native.Nat.{◌+◌}
 use mathlib.Core.Path.{◌≡◌, refl, sym, ap, ◌∙◌}
 use native.Mathlib.Omega.{arith}
 use lib.ListN.{length-set}
@@ -14,8 +14,8 @@ loop-i-init c = (search rules, (refl, sym (pasted_none _ _ _)))
 
 pub loop-i-preserved : goal.loop-i-preserved
 loop-i-preserved c =
-    let a = c.before.before.args in
-    let l = c.before.loop-i in (
+    let a = c.args in
+    let l = c.loop-i in (
       search rules,
       (
         simp length-set (omega arith),
@@ -26,8 +26,8 @@ loop-i-preserved c =
 
 pub returns : goal.returns
 returns c =
-    let a = c.before.before.args in
-    let l = c.before.loop-i in
+    let a = c.args in
+    let l = c.loop-i in
     let e : l.i ≡ a.count = omega arith in
     replaced_of a.t.now l.t a.at a.count (λ k. 0) (omega arith) l.invariant.1.0 (rw e at l.invariant.1.1)
     ∙ ap (replaced a.t.now a.at) (sym (replicate-tabulate a.count 0))

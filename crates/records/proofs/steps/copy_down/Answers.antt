@@ -1,6 +1,6 @@
 -- `copy_down` meets its contract: i words are copied, and the word read next is not overwritten yet. Assumes nothing.
 use borrow.Author.Rules.{rules}
-use Prim.Native.Nat.{ℕ, ◌+◌, ◌-◌}
+use Prim.Native.Nat.{ℕ, ◌+◌}
 use mathlib.Core.Path.{◌≡◌, refl, sym, ap, ◌∙◌}
 use native.Mathlib.Omega.{arith}
 use lib.ListN.{length-set}
@@ -16,8 +16,8 @@ loop-i-init c = (search rules, (refl, sym (pasted_none _ _ _)))
 pub loop-i-preserved : goal.loop-i-preserved
 unfolding from
 loop-i-preserved c =
-    let a = c.before.before.before.args in
-    let l = c.before.before.loop-i in
+    let a = c.args in
+    let l = c.loop-i in
     let w : ℕ → ℕ = from (words a.t.now) a.source in (
       search rules,
       (
@@ -30,8 +30,8 @@ loop-i-preserved c =
 
 pub returns : goal.returns
 returns c =
-    let a = c.before.before.args in
-    let l = c.before.loop-i in
+    let a = c.args in
+    let l = c.loop-i in
     let e : l.i ≡ a.count = omega arith in
     replaced_of a.t.now l.t a.at a.count (from (words a.t.now) a.source) (omega arith) l.invariant.1.0
     (rw e at l.invariant.1.1)

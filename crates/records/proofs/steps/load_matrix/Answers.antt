@@ -1,6 +1,6 @@
 -- `load_matrix` meets its contract: the first j rows are those passed, the others zero. Assumes nothing.
 use borrow.Author.Rules.{rules}
-use Prim.Native.Nat.{ℕ, ◌-◌, ◌*◌}
+use Prim.Native.Nat.{ℕ, ◌*◌}
 use mathlib.Core.Path.{◌≡◌, refl, sym, ap, ◌∙◌}
 use native.Mathlib.Omega.{arith}
 use lib.ListN.{length-set}
@@ -19,24 +19,24 @@ loop-j-init c = (search rules, (refl, zero_rows ∙ sym (pasted_none 0 _ _)))
 
 pub loop-j-preserved : goal.loop-j-preserved
 loop-j-preserved c =
-    let a = c.before.before.before.before.args in
-    let l = c.before.before.loop-j in
+    let a = c.args in
+    let l = c.loop-j in
     let w : ℕ → ℕ = words a.t.now in (
       search rules,
       (
         simp length-set (omega arith),
-        seen_more row_in no_row l.matrix 0 l.j l.j c.Load-row.result
+        seen_more row_in no_row l.matrix 0 l.j l.j c.load_row.result
             (λ k. row_of a.n (from (from w a.at) (k * a.n))) zero_matrix
             l.invariant.1.1 (omega arith) (omega arith)
-            (c.Load-row.ensures ∙ ap (row_of a.n) (sym (from_from w a.at (l.j * a.n)))),
+            (c.load_row.ensures ∙ ap (row_of a.n) (sym (from_from w a.at (l.j * a.n)))),
       ),
     )
 
 pub returns : goal.returns
 unfolding matrix_of
 returns c =
-    let a = c.before.before.before.args in
-    let l = c.before.loop-j in
+    let a = c.args in
+    let l = c.loop-j in
     let e : l.j ≡ a.n = omega arith in
     matrix_read l.matrix a.n (λ k. row_of a.n (from (from (words a.t.now) a.at) (k * a.n))) (omega arith)
     (rw e at l.invariant.1.1)

@@ -6,16 +6,6 @@ use Rattle.model.specs.RecordWords.{record_size}
 use Rattle.laws.proofs.Records.{record_of_parts}
 use Rattle.records.specs.Meaning.{record_in}
 use Rattle.records.proofs.steps.load_record.Goals as goal
-use Rattle.records.proofs.steps.load_record.Goals.{After-load_matrix-matrix, After-load_value-value, After-shared_slice_known-2-1, Start}
-
-abbrev start : After-load_value-value → Start
-start c = c.before.before
-
-abbrev at_load_value : After-load_matrix-matrix → After-load_value-value
-at_load_value c = c.before
-
-abbrev at_load_matrix : After-shared_slice_known-2-1 → After-load_matrix-matrix
-at_load_matrix c = c.before
 
 pub load_value-value-requires : goal.load_value-value-requires
 unfolding record_size
@@ -44,8 +34,6 @@ bounds-t-at-4 c = omega arith
 pub returns : goal.returns
 unfolding record_in
 returns c =
-    let load-matrix = at_load_matrix c.before.before.before in
-    let load_value = at_load_value load-matrix in
-    let a = (start load_value).args in
-    rw (load_value.load_value-value.ensures, load-matrix.load_matrix-matrix.ensures)
+    let a = c.args in
+    rw (c.load_value-value.ensures, c.load_matrix-matrix.ensures)
     (sym (record_of_parts a.n (words a.t.now) a.at))

@@ -2,7 +2,7 @@
 use borrow.Author.Rules.{rules}
 use mathlib.Core.Path.{◌≡◌, refl, sym, ap, ◌∙◌}
 use native.Mathlib.Omega.{arith}
-use Prim.Native.Nat.{◌-◌, min}
+use Prim.Native.Nat.{min}
 use lib.ListN.{length-set}
 use Rattle.lists.specs.Functions.{from, pasted}
 use Rattle.lists.specs.Parts.{words}
@@ -14,15 +14,15 @@ use Rattle.records.proofs.steps.load_row.Goals as goal
 
 pub loop-i-init : goal.loop-i-init
 loop-i-init c =
-    let a = c.before.args in
+    let a = c.args in
     let g = from (words a.t.now) a.at in
     (search rules, (refl, words_zeros 12 ∙ sym (pasted_none 0 g (λ k. 0)) ∙ ap (λ k. pasted 0 k g (λ k. 0)) (none_yet a.n)))
 
 pub loop-i-preserved : goal.loop-i-preserved
 unfolding from
 loop-i-preserved c =
-    let a = c.before.before.before.before.args in
-    let l = c.before.before.loop-i in (
+    let a = c.args in
+    let l = c.loop-i in (
       search rules,
       (
         simp length-set (omega arith),
@@ -34,7 +34,7 @@ loop-i-preserved c =
 
 pub returns : goal.returns
 returns c =
-    let a = c.before.before.before.args in
-    let l = c.before.loop-i in
+    let a = c.args in
+    let l = c.loop-i in
     let e : min l.i a.n ≡ a.n = omega arith in
     row_read l.row a.n (from (words a.t.now) a.at) (omega arith) (rw e at l.invariant.1.1)

@@ -6,4 +6,4 @@ use Prim.Native.Nat.{◌+◌}
 use Rattle.records.proofs.steps.store_count.Goals as goal
 
 pub returns : goal.returns
-returns c = let a = c.before.args in rw (lt-ltb _ _ c.if-n-i.false) (words_set a.t.now (a.at + a.i) a.count (omega arith))
+returns c = let a = c.args in rw (lt-ltb _ _ c.if-n-i.false) (words_set a.t.now (a.at + a.i) a.count (omega arith))

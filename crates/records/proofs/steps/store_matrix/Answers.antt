@@ -1,6 +1,6 @@
 -- `store_matrix` meets its contract: j rows are stored. Assumes nothing.
 use borrow.Author.Rules.{rules}
-use Prim.Native.Nat.{◌+◌, ◌-◌, ◌*◌}
+use Prim.Native.Nat.{◌+◌, ◌*◌}
 use mathlib.Core.Path.{refl, sym, ap, ◌∙◌}
 use native.Mathlib.Nat.{zero-mul}
 use native.Mathlib.Omega.{arith}
@@ -9,27 +9,19 @@ use Rattle.lists.specs.Parts.{words}
 use Rattle.lists.proofs.Functions.{pasted_none}
 use Rattle.records.proofs.Laws.{row_stored}
 use Rattle.records.proofs.steps.store_matrix.Goals as goal
-use Rattle.records.proofs.steps.store_matrix.Goals.{After-store_row, At-loop-j, Start}
-
-abbrev start : At-loop-j → Start
-start c = c.before.before
-
-abbrev at_loop : After-store_row → At-loop-j
-at_loop c = c.before.before.before.before
 
 pub loop-j-init : goal.loop-j-init
 loop-j-init c = (search rules, (refl, rw zero-mul (sym (pasted_none _ _ _))))
 
 pub loop-j-preserved : goal.loop-j-preserved
 loop-j-preserved c =
-    let loop = at_loop c.before.before in
-    let a = (start loop).args in
-    let l = loop.loop-j in (
+    let a = c.args in
+    let l = c.loop-j in (
       search rules,
       (
         search rules,
-        c.before.before.store_row.ensures
+        c.store_row.ensures
             ∙ ap (pasted (a.at + l.j * a.n) a.n _) l.invariant.1.1
-            ∙ row_stored a.matrix a.n l.j a.at (words a.t-1.now) (omega arith) (omega arith),
+            ∙ row_stored a.matrix a.n l.j a.at (words a.t.now) (omega arith) (omega arith),
       ),
     )

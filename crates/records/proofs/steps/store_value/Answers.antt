@@ -1,6 +1,6 @@
 -- `store_value` meets its contract: i words are stored. Assumes nothing.
 use borrow.Author.Rules.{rules}
-use Prim.Native.Nat.{◌+◌, ◌-◌}
+use Prim.Native.Nat.{◌+◌}
 use mathlib.Core.Path.{refl, sym}
 use native.Mathlib.Omega.{arith}
 use lib.ListN.{length-set}
@@ -14,8 +14,8 @@ loop-i-init c = (search rules, (refl, sym (pasted_none _ _ _)))
 
 pub loop-i-preserved : goal.loop-i-preserved
 loop-i-preserved c =
-    let a = c.before.before.args in
-    let l = c.before.loop-i in (
+    let a = c.args in
+    let l = c.loop-i in (
       search rules,
       (
         simp length-set (omega arith),
