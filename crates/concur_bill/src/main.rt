@@ -46,13 +46,19 @@ fn take_piece(table: &mut [u32], kept: &mut [u8], counted: Counted, bytes: &[u8]
 }
 
 // Reads once. Where that fails there is nothing more to read, and no bill.
-fn read_piece(table: &mut [u32], kept: &mut [u8], counted: Counted, input: &mut [u8]) -> Turn
+fn read_piece(
+    rt: &(impl Input + Eprint),
+    table: &mut [u32],
+    kept: &mut [u8],
+    counted: Counted,
+    input: &mut [u8],
+) -> Turn
     requires { Going counted.progress counted.accounts table.old kept.old }
     ensures going { Going result.counted.progress result.counted.accounts table.new kept.new }
     ensures more_value { (result.ok ≡ false → result.more ≡ false)
         × (over (state_of result.counted.progress table.new kept.new) ≡ true → result.more ≡ false) }
 {
-    let got = read_some(input);
+    let got = read_some(rt, input);
     if !got.ok {
         return Turn {
             counted,
@@ -65,7 +71,13 @@ fn read_piece(table: &mut [u32], kept: &mut [u8], counted: Counted, input: &mut 
 }
 
 // Reads until the input or the script is over, and writes the bill if all of it could be read.
-fn run(table: &mut [u32], kept: &mut [u8], input: &mut [u8], out: &mut [u8])
+fn run(
+    rt: &(impl Input + Print + Eprint),
+    table: &mut [u32],
+    kept: &mut [u8],
+    input: &mut [u8],
+    out: &mut [u8],
+)
     requires { (length table.old ≡ most_words) × ((length kept.old ≡ most_kept) × (longest_bill ≤ length out.old)) }
 {
     let accounts = Accounts::start();
@@ -76,7 +88,7 @@ fn run(table: &mut [u32], kept: &mut [u8], input: &mut [u8], out: &mut [u8])
     let mut ok = true;
     let mut turns = MOST_TURNS;
     while 0 < turns {
-        let turn = read_piece(table, kept, counted, input);
+        let turn = read_piece(rt, table, kept, counted, input);
         counted = turn.counted;
         ok = turn.ok;
         turns = turns_left(turns, turn.more);
@@ -85,13 +97,16 @@ fn run(table: &mut [u32], kept: &mut [u8], input: &mut [u8], out: &mut [u8])
         return;
     }
     let last = finish(table, kept, counted.progress, counted.accounts, out);
-    write_out(&out[..last]);
+    write_out(rt, &out[..last]);
 }
 
-fn main() {
+// The bytes of a reading, and room for the bill.
+const BUFFER: usize = 65536;
+
+fn main(rt: HostRuntime) {
     let mut table = [0u32; MOST_WORDS];
     let mut kept = [0u8; MOST_KEPT];
-    let mut input = io::large_buffer();
-    let mut out = io::large_buffer();
-    run(&mut table, &mut kept, &mut input, &mut out);
+    let mut input = [0u8; BUFFER];
+    let mut out = [0u8; BUFFER];
+    run(&rt, &mut table, &mut kept, &mut input, &mut out);
 }

@@ -19,6 +19,7 @@ struct Turn {
 
 // Feeds the bytes that were read, and writes what they print each time that the output is full. The script is over if that fails.
 fn feed_all(
+    rt: &(impl Print + Eprint),
     table: &mut [u32],
     kept: &mut [u8],
     p: Progress,
@@ -34,7 +35,7 @@ fn feed_all(
     while from < bytes.len() {
         let fed = feed(table, kept, progress, &bytes[from..], out);
         let written = fed.written;
-        if !write_out(&out[..written]) {
+        if !write_out(rt, &out[..written]) {
             return Progress::OVER;
         }
         progress = fed.progress;
@@ -44,7 +45,14 @@ fn feed_all(
 }
 
 // Takes the bytes that a reading got. There may be more to read if it got any, and the script is not over.
-fn take_piece(table: &mut [u32], kept: &mut [u8], p: Progress, bytes: &[u8], out: &mut [u8]) -> Turn
+fn take_piece(
+    rt: &(impl Print + Eprint),
+    table: &mut [u32],
+    kept: &mut [u8],
+    p: Progress,
+    bytes: &[u8],
+    out: &mut [u8],
+) -> Turn
     requires { (Ready p table.old kept.old) × (longest_printed ≤ length out.old) }
     ensures ready { Ready result.progress table.new kept.new }
     ensures fed_all { FedAll p table.old kept.old bytes.now
@@ -52,7 +60,7 @@ fn take_piece(table: &mut [u32], kept: &mut [u8], p: Progress, bytes: &[u8], out
     ensures more_value { result.more
         ≡ (ltb 0 (length bytes.now) && not (over (state_of result.progress table.new kept.new))) }
 {
-    let progress = feed_all(table, kept, p, bytes, out);
+    let progress = feed_all(rt, table, kept, p, bytes, out);
     if bytes.len() == 0 {
         return Turn {
             progress,
@@ -67,6 +75,7 @@ fn take_piece(table: &mut [u32], kept: &mut [u8], p: Progress, bytes: &[u8], out
 
 // Reads once. Where that fails the script is over.
 fn read_piece(
+    rt: &(impl Input + Print + Eprint),
     table: &mut [u32],
     kept: &mut [u8],
     p: Progress,
@@ -77,7 +86,7 @@ fn read_piece(
     ensures ready { Ready result.progress table.new kept.new }
     ensures more_value { over (state_of result.progress table.new kept.new) ≡ true → result.more ≡ false }
 {
-    let got = read_some(input);
+    let got = read_some(rt, input);
     if !got.ok {
         return Turn {
             progress: Progress::OVER,
@@ -85,28 +94,37 @@ fn read_piece(
         };
     }
     let n = got.length;
-    take_piece(table, kept, p, &input[..n], out)
+    take_piece(rt, table, kept, p, &input[..n], out)
 }
 
 // Reads until the input or the script is over.
-fn run(table: &mut [u32], kept: &mut [u8], input: &mut [u8], out: &mut [u8])
+fn run(
+    rt: &(impl Input + Print + Eprint),
+    table: &mut [u32],
+    kept: &mut [u8],
+    input: &mut [u8],
+    out: &mut [u8],
+)
     requires { (length table.old ≡ most_words) × ((length kept.old ≡ most_kept) × (longest_printed ≤ length out.old)) }
 {
     let mut progress = Progress::START;
     let mut turns = MOST_TURNS;
     while 0 < turns {
-        let turn = read_piece(table, kept, progress, input, out);
+        let turn = read_piece(rt, table, kept, progress, input, out);
         progress = turn.progress;
         turns = turns_left(turns, turn.more);
     }
     let last = finish(table, kept, progress, out);
-    write_out(&out[..last]);
+    write_out(rt, &out[..last]);
 }
 
-fn main() {
+// The bytes of a reading, and those of what is written at once.
+const BUFFER: usize = 65536;
+
+fn main(rt: HostRuntime) {
     let mut table = [0u32; MOST_WORDS];
     let mut kept = [0u8; MOST_KEPT];
-    let mut input = io::large_buffer();
-    let mut out = io::large_buffer();
-    run(&mut table, &mut kept, &mut input, &mut out);
+    let mut input = [0u8; BUFFER];
+    let mut out = [0u8; BUFFER];
+    run(&rt, &mut table, &mut kept, &mut input, &mut out);
 }

@@ -12,23 +12,31 @@ use streams::write_out;
 use tool_input::{read_arguments, read_script};
 
 // Nothing is printed where reading fails.
-fn run(asked: Asked, input: &mut [u8], table: &mut [u32], out: &mut [u8])
+fn run(
+    rt: &(impl Input + Print + Eprint),
+    asked: Asked,
+    input: &mut [u8],
+    table: &mut [u32],
+    out: &mut [u8],
+)
     requires { (length table.old ≡ most_words) × (longest_answer ≤ length out.old) }
 {
-    let read = read_script(asked, input);
+    let read = read_script(rt, asked, input);
     if !read.ok {
         return;
     }
     let n = read.length;
     let end = answer(&input[..n], table, asked, out);
-    write_out(&out[..end]);
+    write_out(rt, &out[..end]);
 }
 
 // A buffer of one byte more than a script may have tells one that is too long.
-fn main() {
-    let asked = read_arguments();
-    let mut input = io::large_buffer();
+const BUFFER: usize = 65536;
+
+fn main(rt: HostRuntime) {
+    let asked = read_arguments(&rt);
+    let mut input = [0u8; BUFFER];
     let mut table = [0u32; MOST_WORDS];
     let mut out = [0u8; LONGEST_ANSWER];
-    run(asked, &mut input, &mut table, &mut out);
+    run(&rt, asked, &mut input, &mut table, &mut out);
 }

@@ -22,7 +22,8 @@ use Rattle.log_check.specs.Remembered.{barred_until, bar_before, last_accepted, 
 -- A log's first rows.
 
 module _ (n : ℕ) (w : ℕ → ℕ) where
-  pub row_more : (k : ℕ) → RowHolds n (row_of (from w (k * row_size))) (rows_of w k) → LogHolds n (rows_of w k) → LogHolds n (rows_of w (k + 1))
+  pub row_more : (k : ℕ) → RowHolds n (row_of (from w (k * row_size))) (rows_of w k) → LogHolds n (rows_of w k) → LogHolds n
+    (rows_of w (k + 1))
   unfolding rows_of
   row_more k r h = rw add-one (r, h)
 

@@ -65,7 +65,8 @@ row_fits n j h p = record { within = row_within n j p; small = square_small n h 
 
 -- one row more of a matrix written
 pub row_written : (m : List Row) (n j a : ℕ) (w : ℕ → ℕ) → n ≤ 12 → j < n
-    → pasted (a + j * n * 4) (n * 4) (byte_in (words (get_or m j no_row).counts)) (pasted a (j * n * 4) (byte_in (matrix_word n (matrix_in m))) w)
+    → pasted (a + j * n * 4) (n * 4) (byte_in (words (get_or m j no_row).counts))
+    (pasted a (j * n * 4) (byte_in (matrix_word n (matrix_in m))) w)
     ≡ pasted a ((j + 1) * n * 4) (byte_in (matrix_word n (matrix_in m))) w
 unfolding from
 row_written m n j a w h p =

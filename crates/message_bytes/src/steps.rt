@@ -44,6 +44,7 @@ pub const FIELDS_AT: usize = FRAME_LENGTH + HEADER_LENGTH;
 pub const RECORD_AT: usize = FIELDS_AT + N_LENGTH;
 
 // The length of a record.
+#[tactic(auto, unfolding(model::specs::Messages::record_length))]
 pub fn record_length(n: usize) -> usize
     requires { n ≤ 12 }
     ensures { result ≡ record_length n }
@@ -138,6 +139,7 @@ fn read_matrix(s: &[u8], at: usize, n: usize) -> [Row; 12]
 }
 
 // The record in the bytes from `at` on. The matrix is read first: its loop would part the loads of the others from their use.
+#[tactic(auto, unfolding(model::specs::Messages::record_length))]
 pub fn read_record(s: &[u8], at: usize, n: usize) -> Record
     requires { (n ≤ 12) × (at + record_length n ≤ length s.now) }
     ensures { record_in result ≡ record_from n (from (words s.now) at) }
@@ -199,6 +201,7 @@ fn write_matrix(t: &mut [u8], at: usize, n: usize, matrix: [Row; 12])
 }
 
 // The record written to the bytes from `at` on.
+#[tactic(auto, unfolding(model::specs::Messages::record_length))]
 pub fn write_record(t: &mut [u8], at: usize, n: usize, r: Record)
     requires { (n ≤ 12) × ((at + record_length n ≤ length t.old) × InBytes r) }
     ensures { words t.new

@@ -6,6 +6,7 @@ use mathlib.Core.Path.{◌≡◌, refl, ap}
 use mathlib.Core.Bool.{true}
 use mathlib.Core.List.{List, [], ◌∷◌, map}
 use lib.Dec.{ltb}
+use Rattle.std.proofs.lemmas.List.{map-id}
 use lib.ListN.{length, get_or, replicate}
 use borrow.Author.Tests.{lt-ltb}
 use mir.Syntax.{w32}
@@ -13,7 +14,7 @@ use mir.Val.{Val, vint}
 use denote.Shadow.{shadow}
 use denote.Laws.{Is}
 use denote.Array as array
-use denote.Struct.Field.{Field, u32-field, array_field}
+use denote.Struct.Field.{Field, row_field, u32-field, array_field}
 use Rattle.lists.specs.Functions.{inside, numbered, each}
 use Rattle.lists.specs.Parts.{words}
 use Rattle.lists.proofs.Functions.{on, both, each_all}
@@ -58,21 +59,26 @@ module _ (F : Field) (P : F.Value → Type 0) (d : F.Value) (past : P d) (holds 
 abbrev Small : ℕ → Type 0
 Small x = x < 4294967296
 
-numbers_small : (k : ℕ) (l : List ℕ) (vs : List Val) → Holds (array_field u32-field k) l vs → (i : ℕ) → Small (words l i)
-numbers_small = in_array u32-field Small 0 (omega arith) (λ x vs p. p.1)
+-- (a struct has an array of numbers as it is, not number by number)
+numbers_small : (k : ℕ) (l : List ℕ) (vs : List Val) → Is (array_field u32-field k).row l vs → (i : ℕ) → Small (words l i)
+numbers_small k l vs p = in_array u32-field Small 0 (omega arith) (λ x vs p. p.1) k l vs (rw map-id p)
 
-row_small : (r : Row) (vs : List Val) → Holds row_type.the_field r vs → (i : ℕ) → Small (words r.counts i)
+row_small : (r : Row) (vs : List Val) → Is row_type.the_row r vs → (i : ℕ) → Small (words r.counts i)
 row_small r vs p = numbers_small 12 r.counts p.0.0 p.1.1.0
 
-rows_small : (k : ℕ) (m : List Row) (vs : List Val) → Holds (array_field row_type.the_field k) m vs
-    → (j i : ℕ) → Small (words (get_or m j no_row).counts i)
-rows_small = in_array row_type.the_field (λ r. (i : ℕ) → Small (words r.counts i)) no_row (λ i. omega arith) row_small
+abbrev rows : ℕ → Field
+rows k = array_field (row_field row_type.the_row) k
 
-value_small : (l : List ℕ) (vs : List Val) → Holds (array_field u32-field 8) l vs → (i : ℕ) → Small (value_of (words l) i)
+rows_small : (k : ℕ) (m : List Row) (vs : List Val) → Is (rows k).row m vs → (j i : ℕ) → Small (words (get_or m j no_row).counts i)
+rows_small k m vs p =
+    in_array (row_field row_type.the_row) (λ r. (i : ℕ) → Small (words r.counts i)) no_row (λ i. omega arith) row_small k m vs
+    (rw map-id p)
+
+value_small : (l : List ℕ) (vs : List Val) → Is (array_field u32-field 8).row l vs → (i : ℕ) → Small (value_of (words l) i)
 unfolding value_of
 value_small l vs p = numbered_all Small 8 0 (words l) (omega arith) (numbers_small 8 l vs p)
 
-matrix_small : (m : List Row) (vs : List Val) → Holds (array_field row_type.the_field 12) m vs → (j k : ℕ) → Small (matrix_in m j k)
+matrix_small : (m : List Row) (vs : List Val) → Is (rows 12).row m vs → (j k : ℕ) → Small (matrix_in m j k)
 unfolding matrix_in row_in row_of zero_row
 matrix_small m vs p = numbered_all (λ r. (k : ℕ) → Small (r k)) 12 zero_row (λ j. row_in (get_or m j no_row)) (λ k. omega arith)
     (λ j. numbered_all Small 12 0 (words (get_or m j no_row).counts) (omega arith) (rows_small 12 m vs p j))
@@ -100,7 +106,8 @@ held_small n m vs p =
     (both (record_small n m.newest _ behind.0) (record_small n m.stored _ behind.1.0))
 
 -- The first half of the round trip, of every message that a program holds.
-pub of_structs : (m : Message) (vs : List Val) → Is message_type.the_row m vs → (n : ℕ) (out : List ℕ) → number_written n (fields_in m) out ≡ 0
+pub of_structs : (m : Message) (vs : List Val) → Is message_type.the_row m vs → (n : ℕ) (out : List ℕ) → number_written n
+    (fields_in m) out ≡ 0
     → ReadBack n (fields_in m) out
 of_structs m vs p n out h = round_trip.back n (fields_in m) out (held_small n m vs p) h
 

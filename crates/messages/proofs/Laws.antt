@@ -18,7 +18,6 @@ use Rattle.model.specs.Records.{Rec}
 use Rattle.model.specs.Messages.{Message, submit, reply, commit, outcome, kind_of, length_of, record_byte, record_length}
 use Rattle.model.specs.Messages.{record_bytes, encode, fit_message, fit_given, written_length, write_number, written_to}
 use Rattle.laws.proofs.Messages.{heading, by_kind, length-record_bytes, length-encode, writable_of}
-use Rattle.message_bytes.proofs.Laws.{stored}
 use Rattle.messages.specs.Meaning.{Fields, Fronted, only_records, message_of}
 
 -- Runs of bytes one after the other, and a list whose front was written.
@@ -34,7 +33,8 @@ pasted_append p q k w e =
     ∙ ap (λ k. pasted 0 k (words (p ++ q)) w) (sym (length-append p q))
 
 pub record_bytes_lem : (n a : ℕ) (r : Rec) (w : ℕ → ℕ)
-    → pasted a (record_length n) (record_byte (words (record_words n r))) w ≡ pasted a (length (record_bytes n r)) (words (record_bytes n r)) w
+    → pasted a (record_length n) (record_byte (words (record_words n r))) w ≡ pasted a (length (record_bytes n r))
+    (words (record_bytes n r)) w
 unfolding record_bytes
 record_bytes_lem n a r w =
     pasted_same a (record_length n) (record_byte (words (record_words n r))) (words (record_bytes n r)) w

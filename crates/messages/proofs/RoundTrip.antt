@@ -18,9 +18,12 @@ use Rattle.model.specs.Records.{record_within}
 use Rattle.model.specs.RecordWords.{record_words, matrix_word}
 use Rattle.model.specs.Kinds.{is_operation}
 use Rattle.model.specs.Halves.{fit_record}
-use Rattle.model.specs.Messages.{Message, submit, reply, commit, outcome, record_length, length_of, record_at, number_bytes, byte_in, headed}
-use Rattle.model.specs.Messages.{record_byte, record_word, record_bytes, record_from, encode, message_from, fit_message, read_number, decode}
-use Rattle.model.specs.Messages.{fit_given, written_length, write_number, writable, written_to, small_record, small, fits, Bytes, message_within}
+use Rattle.model.specs.Messages.{Message, submit, reply, commit, outcome, record_length, length_of, record_at, number_bytes}
+use Rattle.model.specs.Messages.{byte_in, headed}
+use Rattle.model.specs.Messages.{record_byte, record_word, record_bytes, record_from, encode, message_from, fit_message}
+use Rattle.model.specs.Messages.{read_number, decode}
+use Rattle.model.specs.Messages.{fit_given, written_length, write_number, writable, written_to, small_record, small, fits, Bytes}
+use Rattle.model.specs.Messages.{message_within}
 use Rattle.laws.proofs.Records.{within_read}
 use Rattle.laws.proofs.Messages.{Readable, readable, by_kind, decoded, writable_of, from_submit, from_reply, from_commit, from_outcome}
 use Rattle.laws.proofs.Messages.{submit_parts, reply_parts, commit_parts, outcome_parts, read_back_lem, written_again}
@@ -91,7 +94,8 @@ took : (n : ℕ) (m : Option Message) (size : ℕ) → write_number n m size ≡
 unfolding writable
 took n m size h = rw (eq-eqb (write_number n m size) 0 h)
 
-sent_is_lem : (n : ℕ) (f : Fields) (out : List ℕ) (m : Message) → message_of f ≡ some m → number_written n f out ≡ 0 → sent n f out ≡ encode n m
+sent_is_lem : (n : ℕ) (f : Fields) (out : List ℕ) (m : Message) → message_of f ≡ some m → number_written n f out
+    ≡ 0 → sent n f out ≡ encode n m
 unfolding written_length written_to
 sent_is_lem n f out m e h =
     ap (λ o. take (written_length n o) (written_to n o out)) (took n (message_of f) (length out) h ∙ e)
@@ -184,7 +188,8 @@ example_small kind = refl
 
 -- a record of the example, in bytes
 example_bytes_lem : (i : ℕ) → record_bytes 2 (example_record i) ≡ example_bytes i
-unfolding record_bytes record_length record_byte headed byte_in number_bytes from record_words tabulate matrix_word example_record example_bytes
+unfolding record_bytes record_length record_byte headed byte_in number_bytes from record_words tabulate matrix_word example_record
+    example_bytes
 example_bytes_lem i = refl
 
 -- enough: the message of that kind, its bytes, and that they have room

@@ -12,7 +12,8 @@ use lib.ListN.{length, take, drop, length-append, length-take}
 use lib.Seq.{take_all}
 use borrow.Author.Tests.{eq-eqb, ne_eqb, eqb-true, ltb-true, ltb-false}
 use Rattle.lists.proofs.Functions.{on, first, second}
-use Rattle.model.specs.Script.{line_feed, space, is_digit, members_word, write_word, read_word, deliver_word, crash_word, starts_with, before}
+use Rattle.model.specs.Script.{line_feed, space, is_digit, members_word, write_word, read_word, deliver_word, crash_word}
+use Rattle.model.specs.Script.{starts_with, before}
 use Rattle.model.specs.Script.{beyond, digits, digits_read, number_of, Line, writes, reads, delivers, crashes, malformed, one_number}
 use Rattle.model.specs.Script.{two_numbers, single, double, line_of, text_of, Bounded, first_of, with_byte, lines_of}
 use Rattle.script.specs.Meaning.{longest_line}
@@ -119,16 +120,16 @@ module _ (word : List ℕ) (line : ℕ → Line) (l : List ℕ) (starts : starts
     (behind : line_of l ≡ single line (drop (length word) l))
     (small : (x : ℕ) → x < 4294967296 → Bounded (line x))
     (text : (x : ℕ) → text_of (line x) ≡ word ++ digits x) where
-  one_number : (o : Option ℕ) → number_of (drop (length word) l) ≡ o → Known l
+  the_number : (o : Option ℕ) → number_of (drop (length word) l) ≡ o → Known l
   unfolding one_number
-  one_number none e = inl (behind ∙ rw e)
-  one_number (some x) e =
+  the_number none e = inl (behind ∙ rw e)
+  the_number (some x) e =
       let s = number_only (drop (length word) l) x e in
       let c : line_of l ≡ line x = behind ∙ rw e in
       inr (rw c (small x s.1, text x ∙ ap (λ m. word ++ m) (sym s.0) ∙ starts_split word l starts))
 
   one_known : Known l
-  one_known = one_number (number_of (drop (length word) l)) refl
+  one_known = the_number (number_of (drop (length word) l)) refl
 
 pub line_known : (l : List ℕ) → Known l
 unfolding line_of text_of

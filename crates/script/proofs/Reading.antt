@@ -13,7 +13,8 @@ use lib.Seq.{drop-cons, take-suc, take_all}
 use borrow.Author.Tests.{eq-eqb, ne_eqb, lt-ltb, le-ltb, ltb-true, ltb-false, leb-true}
 use Rattle.lists.specs.Parts.{words}
 use Rattle.lists.proofs.Functions.{on, both, first, second, fails, apart}
-use Rattle.model.specs.Script.{space, is_digit, digit_zero, starts_with, before, beyond, digits_read, limited, leading_zero, number_of, Line}
+use Rattle.model.specs.Script.{space, is_digit, digit_zero, starts_with, before, beyond, digits_read, limited, leading_zero}
+use Rattle.model.specs.Script.{number_of, Line}
 use Rattle.model.specs.Script.{writes, reads, delivers, crashes, malformed, one_number, two_numbers, single, double}
 use Rattle.script.specs.Meaning.{held_number, held_line, held_one, held_two}
 use Rattle.script.specs.declared.Number.{Number}

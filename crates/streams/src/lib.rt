@@ -3,7 +3,8 @@
 
 ghost use Rattle.std.specs.Prelude.{◌-◌, ◌≤◌, ◌<◌, ◌≡◌, cond, length};
 
-use libc::{STDIN_FILENO, STDOUT_FILENO};
+use std::io;
+use std::io::Read;
 
 // What was read: whether it could be, and how many bytes.
 #[derive(Clone, Copy)]
@@ -13,29 +14,29 @@ pub struct Input {
 }
 
 // Writes bytes, and answers whether it could.
-pub fn write_out(bytes: &[u8]) -> bool {
-    let written = io::write_all(STDOUT_FILENO, bytes);
-    if !written {
-        os::fail(b"standard output");
+pub fn write_out(rt: &(impl Print + Eprint), bytes: &[u8]) -> bool {
+    match rt.write_all(bytes) {
+        Ok(()) => true,
+        Err(error) => {
+            let _ = eprintln!(rt; "standard output: {error}");
+            false
+        }
     }
-    written
 }
 
 // Reads once: no bytes where the input is over.
-pub fn read_some(buffer: &mut [u8]) -> Input
+pub fn read_some(rt: &(impl io::Input + Eprint), buffer: &mut [u8]) -> Input
     ensures { result.length ≤ length buffer.new }
 {
-    let got = libc::read(STDIN_FILENO, buffer);
-    if got < 0 {
-        os::fail(b"standard input");
-        return Input {
-            ok: false,
-            length: 0,
-        };
-    }
-    Input {
-        ok: true,
-        length: io::count(got, buffer),
+    match rt.reader().read(buffer) {
+        Ok(length) => Input { ok: true, length },
+        Err(error) => {
+            let _ = eprintln!(rt; "standard input: {error}");
+            Input {
+                ok: false,
+                length: 0,
+            }
+        }
     }
 }
 
@@ -57,12 +58,12 @@ pub fn turns_left(turns: u64, more: bool) -> u64
 }
 
 // Reads until the input is over or the buffer is full.
-pub fn read_all(buffer: &mut [u8]) -> Input
+pub fn read_all(rt: &(impl io::Input + Eprint), buffer: &mut [u8]) -> Input
     ensures { result.length ≤ length buffer.new }
 {
     let mut at = 0;
     while at < buffer.len() {
-        let got = read_some(&mut buffer[at..]);
+        let got = read_some(rt, &mut buffer[at..]);
         if !got.ok {
             return got;
         }

@@ -5,33 +5,44 @@ ghost use Rattle.std.specs.Prelude.{◌≡◌, true, false, ◌≤◌, length};
 ghost use Rattle.tool_input.specs.Meaning.{Held};
 
 use overtaker::Asked;
+use std::env::{Env, FillError};
+use std::io;
 use streams::{Input, read_all};
 
 // Longer than any number: an argument that does not fit is none.
 const LONGEST_ARGUMENT: usize = 16;
 
-// The arguments behind the program's own name.
-fn argument_count() -> usize {
-    let count = os::arg_count();
-    if count == 0 {
-        return 0;
+// How many arguments there are behind the program's own name.
+fn argument_count(rt: &impl Env) -> usize {
+    let mut last = [0u8; LONGEST_ARGUMENT];
+    for i in 1..usize::MAX {
+        if matches!(rt.arg(i, &mut last), Err(FillError::NotPresent)) {
+            return i - 1;
+        }
     }
-    count - 1
+    usize::MAX
+}
+
+// An argument's bytes at the front of the buffer, and how many they are: none where it is missing or longer than the buffer.
+fn read_argument(rt: &impl Env, i: usize, buffer: &mut [u8]) -> usize
+    ensures { result ≤ length buffer.new }
+{
+    rt.arg(i, buffer).unwrap_or(0)
 }
 
 // What they ask for. Which bytes they are, no contract can say.
-pub fn read_arguments() -> Asked
+pub fn read_arguments(rt: &impl Env) -> Asked
     ensures { Held result }
 {
     let mut first = [0u8; LONGEST_ARGUMENT];
     let mut second = [0u8; LONGEST_ARGUMENT];
-    let a = os::arg(1, &mut first);
-    let b = os::arg(2, &mut second);
-    Asked::read(argument_count(), &first[..a], &second[..b])
+    let a = read_argument(rt, 1, &mut first);
+    let b = read_argument(rt, 2, &mut second);
+    Asked::read(argument_count(rt), &first[..a], &second[..b])
 }
 
 // The script. Nothing is read where the arguments ask for no operation.
-pub fn read_script(asked: Asked, input: &mut [u8]) -> Input
+pub fn read_script(rt: &(impl io::Input + Eprint), asked: Asked, input: &mut [u8]) -> Input
     ensures length_in_bounds { result.length ≤ length input.new }
     ensures ok_value { asked.ok ≡ false → (result.ok ≡ true) × ((result.length ≡ 0) × (input.new ≡ input.old)) }
 {
@@ -41,5 +52,5 @@ pub fn read_script(asked: Asked, input: &mut [u8]) -> Input
             length: 0,
         };
     }
-    read_all(input)
+    read_all(rt, input)
 }
