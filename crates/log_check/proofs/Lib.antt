@@ -1,3 +1,4 @@
 pub mod Values
 pub mod RowTests
 pub mod Remembered
+pub mod Verdict

@@ -1,8 +1,7 @@
 -- What the pass remembers: nothing of no rows, and after a row what its three stores leave. So much of a log holds as its rows so far do.
-use Prim.Native.Nat.{ℕ, zero, suc, ◌+◌, ◌*◌, ◌-◌, ◌≤◌, ◌<◌}
+use Prim.Native.Nat.{ℕ, zero, suc, ◌+◌, ◌*◌, ◌-◌, ◌≤◌}
 use mathlib.Core.Path.{◌≡◌, refl, sym, ap, ◌∙◌}
-use mathlib.Core.Bool.{cond, ◌&&◌}
-use mathlib.Core.List.{List, [], ◌∷◌}
+use mathlib.Core.List.{List, ◌∷◌}
 use native.Mathlib.Omega.{arith}
 use native.Mathlib.Numerals.{add-one}
 use lib.Dec.{eqb}
@@ -10,10 +9,10 @@ use lib.ListN.{length, set, get_or, replicate, length-set}
 use borrow.Author.Tests.{eq-eqb, ne_eqb, eqb-true, eqb-false}
 use Rattle.lists.specs.Functions.{put, from, numbered, Within}
 use Rattle.lists.specs.Parts.{words}
-use Rattle.lists.proofs.Functions.{on, put_at, put_off, put_all, from_from, numbered_same, numbered_blank}
+use Rattle.lists.proofs.Functions.{on, put_all, from_from, numbered_same, numbered_blank}
 use Rattle.lists.proofs.Parts.{words_zeros}
 use Rattle.lists.proofs.Numbered.{number_stored, number_read}
-use Rattle.model.specs.Records.{Value, write, zero_value}
+use Rattle.model.specs.Records.{write, zero_value}
 use Rattle.model.specs.RecordWords.{value_of}
 use Rattle.model.specs.Kinds.{most_members}
 use Rattle.logs.specs.Log.{LogRow, row_before, last_written, row_size, row_of, rows_of, RowHolds, LogHolds}
@@ -23,7 +22,7 @@ use Rattle.log_check.specs.Remembered.{barred_until, bar_before, last_accepted, 
 
 module _ (n : ℕ) (w : ℕ → ℕ) where
   pub row_more : (k : ℕ) → RowHolds n (row_of (from w (k * row_size))) (rows_of w k) → LogHolds n (rows_of w k) → LogHolds n
-    (rows_of w (k + 1))
+      (rows_of w (k + 1))
   unfolding rows_of
   row_more k r h = rw add-one (r, h)
 
@@ -162,7 +161,7 @@ module _ (w : ℕ → ℕ) (k : ℕ) where
           accepted = refl;
           members = length-set until (w at - 1) (barred_until (w (at + 13))) ∙ known.members;
           barred = bars until known.members member known.barred;
-          slots = ?slots;
+          slots = (length-set written (w (at + 2) - 1) _ ∙ known.slots);
           values = writes written known.slots slot known.values;
           placed = λ r h. omega (arith, places-in written known.slots slot known.placed r h);
         }

@@ -1,7 +1,7 @@
 -- A value beside the last written one: the same if each of the eight words is, and not if one is not.
 use Prim.Native.Nat.{ℕ, ◌+◌, ◌<◌}
 use mathlib.Core.Path.{◌≡◌, sym, ap, ◌∙◌}
-use mathlib.Core.Bool.{Bool}
+use mathlib.Core.Bool.{Bool, true, false}
 use Rattle.lists.specs.Functions.{from}
 use Rattle.lists.proofs.Functions.{numbered_same, numbered_at}
 use Rattle.model.specs.RecordWords.{value_of}
@@ -25,3 +25,10 @@ module _ (w : ℕ → ℕ) (value written : ℕ) where
 pub said : {P Q : Type 0} {r : Bool} → (P → Q) → (Q → P) → Says P r → Says Q r
 said f g (holding h) = holding (f h)
 said f g (failing h) = failing (λ q. h (g q))
+
+-- what an answer that is known says
+pub granted : {P : Type 0} → Says P true → P
+granted (holding h) = h
+
+pub denied : {P : Type 0} → Says P false → P → ⊥
+denied (failing h) = h

@@ -3,7 +3,7 @@ use Rattle.std.specs.Prelude.{ℕ, ◌+◌, ◌*◌, ◌≤◌, ◌<◌, ◌≡�
 use Rattle.std.proofs.Math.Option.{Option, none, some}
 use Rattle.lists.specs.Functions.{from, numbered, Within}
 use Rattle.lists.specs.Parts.{words}
-use Rattle.model.specs.Records.{Value, read, write, zero_value}
+use Rattle.model.specs.Records.{Value, read, write}
 use Rattle.model.specs.RecordWords.{value_of}
 use Rattle.model.specs.Kinds.{most_members}
 use Rattle.logs.specs.Log.{LogRow, row_before, last_written, row_size, rows_of}

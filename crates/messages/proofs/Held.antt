@@ -106,9 +106,8 @@ held_small n m vs p =
     (both (record_small n m.newest _ behind.0) (record_small n m.stored _ behind.1.0))
 
 -- The first half of the round trip, of every message that a program holds.
-pub of_structs : (m : Message) (vs : List Val) → Is message_type.the_row m vs → (n : ℕ) (out : List ℕ) → number_written n
-    (fields_in m) out ≡ 0
-    → ReadBack n (fields_in m) out
+pub of_structs : (m : Message) (vs : List Val) → Is message_type.the_row m vs → (n : ℕ) (out : List ℕ)
+    → number_written n (fields_in m) out ≡ 0 → ReadBack n (fields_in m) out
 of_structs m vs p n out h = round_trip.back n (fields_in m) out (held_small n m vs p) h
 
 -- A message that a program holds and the writer takes: an outcome, its other parts zero.

@@ -33,8 +33,8 @@ pasted_append p q k w e =
     ∙ ap (λ k. pasted 0 k (words (p ++ q)) w) (sym (length-append p q))
 
 pub record_bytes_lem : (n a : ℕ) (r : Rec) (w : ℕ → ℕ)
-    → pasted a (record_length n) (record_byte (words (record_words n r))) w ≡ pasted a (length (record_bytes n r))
-    (words (record_bytes n r)) w
+    → pasted a (record_length n) (record_byte (words (record_words n r))) w
+    ≡ pasted a (length (record_bytes n r)) (words (record_bytes n r)) w
 unfolding record_bytes
 record_bytes_lem n a r w =
     pasted_same a (record_length n) (record_byte (words (record_words n r))) (words (record_bytes n r)) w

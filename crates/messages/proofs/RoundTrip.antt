@@ -94,8 +94,8 @@ took : (n : ℕ) (m : Option Message) (size : ℕ) → write_number n m size ≡
 unfolding writable
 took n m size h = rw (eq-eqb (write_number n m size) 0 h)
 
-sent_is_lem : (n : ℕ) (f : Fields) (out : List ℕ) (m : Message) → message_of f ≡ some m → number_written n f out
-    ≡ 0 → sent n f out ≡ encode n m
+sent_is_lem : (n : ℕ) (f : Fields) (out : List ℕ) (m : Message) → message_of f ≡ some m
+    → number_written n f out ≡ 0 → sent n f out ≡ encode n m
 unfolding written_length written_to
 sent_is_lem n f out m e h =
     ap (λ o. take (written_length n o) (written_to n o out)) (took n (message_of f) (length out) h ∙ e)

@@ -24,8 +24,11 @@ pub returns-then-room-ne1 : goal.returns-then-room-ne1
 unfolding log_number
 returns-then-room-ne1 c =
     let a = c.args in
-    rw (sized (goal.at.returns-then-room-ne1 c).Else-not-is_numbered, eq-eqb (a.long % 14) 0 c.if-long-ne0.false,
-    ne_eqb a.room 1 c.if-room-ne1.true)
+    rw (
+      sized (goal.at.returns-then-room-ne1 c).Else-not-is_numbered,
+      eq-eqb (a.long % 14) 0 c.if-long-ne0.false,
+      ne_eqb a.room 1 c.if-room-ne1.true,
+    )
 
 pub returns-then-long-gt-MOST_ROWS : goal.returns-then-long-gt-MOST_ROWS
 unfolding log_number

@@ -1,13 +1,8 @@
 -- `is_written` meets its contract: each word passed is the written one, so all eight are where the loop ends.
-use Prim.Native.Nat.{◌-◌}
 use mathlib.Core.Path.{sym, ◌∙◌}
 use native.Mathlib.Omega.{arith}
 use Rattle.logs.specs.Log.{holding, failing}
-use Rattle.log_check.specs.Remembered.{written_word}
 use Rattle.log_check.proofs.Values.{value_written, value_apart}
-use Rattle.log_check.proofs.rows.is_written.Reads as reads
-use Rattle.log_check.proofs.rows.is_written.Lts as lts
-use Rattle.log_check.proofs.rows.written_word.Reads as written-word-reads
 use Rattle.log_check.proofs.rows.is_written.Goals as goal
 
 pub returns-then-log-value : goal.returns-then-log-value

@@ -1,9 +1,6 @@
 use Prim.Native.Nat.{ℕ, ◌-◌, ◌≤◌, ◌<◌}
 use Rattle.lists.specs.Parts.{words}
 use Rattle.log_check.proofs.Values.{SameAt}
-use Rattle.log_check.proofs.rows.is_written.Reads as reads
-use Rattle.log_check.proofs.rows.is_written.Lts as lts
-use Rattle.log_check.proofs.rows.written_word.Reads as written-word-reads
 use Rattle.log_check.proofs.rows.is_written.Given as goal
 
 abbrev pub invariant-loop-i : goal.invariant-loop-i

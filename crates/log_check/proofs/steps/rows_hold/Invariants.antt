@@ -1,12 +1,16 @@
-use Rattle.log_check.proofs.steps.rows_hold.Reads as reads
-use Rattle.log_check.proofs.steps.rows_hold.Lts as lts
-use Rattle.log_check.proofs.rows.barred_until.Reads as barred-until-reads
-use Rattle.log_check.proofs.rows.written_after.Reads as written-after-reads
-use Rattle.log_check.proofs.steps.row_holds.Reads as row-holds-reads
+-- The rows passed hold, and what is remembered is of them.
+use Prim.Native.Nat.{◌-◌, ◌≤◌}
+use Rattle.lists.specs.Parts.{words}
+use Rattle.logs.specs.Log.{rows_of, LogHolds}
+use Rattle.log_check.specs.Remembered.{Remembers}
 use Rattle.log_check.proofs.steps.rows_hold.Given as goal
 
 abbrev pub invariant-loop-k : goal.invariant-loop-k
-invariant-loop-k l = ?
+invariant-loop-k l = record {
+  passed : l.k ≤ l.count;
+  holds : LogHolds l.n (rows_of (words l.log) l.k);
+  remembers : Remembers (words l.log) l.k l.last l.until l.written;
+}
 
 abbrev pub decreases-loop-k : goal.decreases-loop-k
-decreases-loop-k l = ?
+decreases-loop-k l = l.count - l.k

@@ -6,14 +6,8 @@ use Rattle.lists.specs.Functions.{from}
 use Rattle.lists.specs.Parts.{words}
 use Rattle.lists.proofs.Functions.{pasted_in, pasted_above}
 use Rattle.model.specs.Messages.{number_in}
-<<<<<<< HEAD:crates/message_bytes/proofs/steps/count_at/Proof.antt
-use Rattle.laws.proofs.Messages.{number_in_at}
-use Rattle.message_bytes.proofs.steps.count_at.Statement.{statement}
-use Rattle.message_bytes.proofs.steps.count_at.Tie as tie
-=======
 use Rattle.laws.proofs.Messages.{number_in_at}
 use Rattle.message_bytes.proofs.steps.count_at.Goals as goal
->>>>>>> 1c0e40b8d2637419ff3818e9d7e747dd2cd7a995:crates/message_bytes/proofs/steps/count_at/Answers.antt
 
 pub returns-then-i-n : goal.returns-then-i-n
 returns-then-i-n c =
