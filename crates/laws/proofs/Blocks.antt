@@ -16,7 +16,8 @@ use Rattle.model.specs.Member.{Member, idle}
 use Rattle.model.specs.Host.{Entry}
 use Rattle.laws.proofs.Records.{row_of_same, value_of_same, matrix_of-same, record_of-same, row_listed, value_listed, matrix_listed}
 use Rattle.laws.proofs.Records.{record_words_of, length-record_words, record_of-words, within_opening}
-use Rattle.model.specs.Table.{own_at, stored_at, accepted_at, last_at, pending_at, known_at, first_at, second_at, block_size, newest_at, entry_size}
+use Rattle.model.specs.Table.{own_at, stored_at, accepted_at, last_at, pending_at, known_at, first_at, second_at, block_size}
+use Rattle.model.specs.Table.{newest_at, entry_size}
 use Rattle.model.specs.Table.{member_of, entry_of, stored_of, member_words, entry_words}
 
 -- The member's block.

@@ -23,7 +23,8 @@ use Rattle.model.specs.Halves.{fit_record}
 use Rattle.model.specs.Messages.{Message, submit, reply, commit, outcome, kind_of, byte_parts, head_length, value_length}
 use Rattle.model.specs.Messages.{record_length, length_of, fields_at, record_at, number_bytes, number_of, byte_in, number_in}
 use Rattle.model.specs.Messages.{headed, record_byte, record_word, record_bytes, record_from, field_bytes, framed, encode}
-use Rattle.model.specs.Messages.{message_from, fit_message, right_n, read_number, decode, fit_given, written_length, write_number, small_record}
+use Rattle.model.specs.Messages.{message_from, fit_message, right_n, read_number, decode, fit_given, written_length, write_number}
+use Rattle.model.specs.Messages.{small_record}
 use Rattle.model.specs.Messages.{small, fits, Bytes, message_within}
 use Rattle.laws.proofs.Records.{square_small, square_pos, head_words, value_words}
 use Rattle.laws.proofs.Records.{matrix_words, record_of-same, record_of-words, record_words_of}
@@ -253,7 +254,8 @@ module _ (n : ℕ) (r : Rec) (ok : small_record n r ≡ true) where
   record_back =
       record_from-same n (words (record_bytes n r)) (record_byte w) (tabulate-at (record_length n) (record_byte w))
       ∙ record_of-same n (record_word (record_byte w)) w (λ i p. by_part (λ i. record_word (record_byte w) i ≡ w i) i
-      (λ q. headed-first (record_byte w) (number_in (from (record_byte w) byte_parts)) i q ∙ headed-first w (byte_in (from w byte_parts)) i q)
+      (λ q. headed-first (record_byte w) (number_in (from (record_byte w) byte_parts)) i q
+      ∙ headed-first w (byte_in (from w byte_parts)) i q)
       (λ k e. headed-past (record_byte w) (number_in (from (record_byte w) byte_parts)) k
       ∙ ap (λ f. number_in f k) (headed-rest w (byte_in (from w byte_parts)))
       ∙ numbers_back (from w byte_parts) k (record_small k (omega arith))))
@@ -415,11 +417,13 @@ by_kind k a b c d other =
     other (eqb-false k 1 p) (eqb-false k 2 q) (eqb-false k 3 r) (eqb-false k 4 s)))))
 
 module _ (n : ℕ) (b : ℕ → ℕ) where
-  pub from_submit : b 3 ≡ 1 → message_from n b ≡ submit (b fields_at) (b (fields_at + 1)) (b (fields_at + 2)) (number_of (from b (fields_at + 3)))
+  pub from_submit : b 3 ≡ 1 → message_from n b ≡ submit (b fields_at) (b (fields_at + 1)) (b (fields_at + 2))
+    (number_of (from b (fields_at + 3)))
   unfolding message_from
   from_submit e = rw e
 
-  pub from_reply : b 3 ≡ 2 → message_from n b ≡ reply (record_from n (from b record_at)) (record_from n (from b (record_at + record_length n)))
+  pub from_reply : b 3 ≡ 2 → message_from n b ≡ reply (record_from n (from b record_at))
+    (record_from n (from b (record_at + record_length n)))
   unfolding message_from
   from_reply e = rw e
 
@@ -459,7 +463,9 @@ module _ (n : ℕ) (b : ℕ → ℕ) where
 
   pub judged_reply : b 3 ≡ 2 → b fields_at ≡ n → judged n b ≡ (fit_at n b record_at && fit_at n b (record_at + record_length n))
   unfolding right_n fit_message
-  judged_reply e d = rw (from_reply n b e, e, eq-eqb (b fields_at) n d, fit_record_lem n b record_at, fit_record_lem n b (record_at + record_length n))
+  judged_reply e d = rw
+    (from_reply n b e, e, eq-eqb (b fields_at) n d, fit_record_lem n b record_at,
+    fit_record_lem n b (record_at + record_length n))
 
   pub judged_misnamed : 1 < b 3 → b 3 < 4 → (b fields_at ≡ n → ⊥) → judged n b ≡ false
   unfolding right_n

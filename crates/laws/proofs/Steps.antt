@@ -16,7 +16,8 @@ use Rattle.lists.proofs.Pieces.{tabulate-of}
 use Rattle.model.specs.Records.{Value, Rec, write, zero_record, record_within}
 use Rattle.model.specs.RecordWords.{matrix_at, record_size, row_of, matrix_of, value_of, record_of, record_words}
 use Rattle.model.specs.Member.{moved, begun, failed, judged, dropped, took_over, crashed_of}
-use Rattle.model.specs.Table.{phase_at, crashed_at, halt_at, slot_at, operation_at, own_at, accepted_at, last_at, pending_at, known_at, first_at}
+use Rattle.model.specs.Table.{phase_at, crashed_at, halt_at, slot_at, operation_at, own_at, accepted_at, last_at, pending_at}
+use Rattle.model.specs.Table.{known_at, first_at}
 use Rattle.model.specs.Table.{second_at, member_of}
 use Rattle.laws.proofs.Records.{row_of_same, matrix_of-same, value_of_same, record_of-same, row_of_at, length-record_words, record_of-words}
 use Rattle.laws.proofs.Blocks.{value_zero, record_zero}
@@ -399,7 +400,8 @@ module _ (n : ℕ) (w : ℕ → ℕ) where
 
   module _ (least : 1 ≤ w slot_at) (most : w slot_at ≤ n) where
     tookOver-by : (v : ℕ → ℕ) → ((i : ℕ) → (last_at n ≤ i → i < last_at n + 8 → ⊥) → v i ≡ kept n w i)
-        → value_of (from v (last_at n)) ≡ cond (eqb (w operation_at) write) (value_of (from w (pending_at n))) (value_of (from w (last_at n)))
+        → value_of (from v (last_at n)) ≡ cond (eqb (w operation_at) write) (value_of (from w (pending_at n)))
+        (value_of (from w (last_at n)))
         → member_of n v ≡ took_over (member_of n w)
     unfolding took_over member_of record_of Other second_at first_at known_at pending_at last_at accepted_at record_size from
     tookOver-by v same last = λ t. record {

@@ -20,7 +20,8 @@ use Rattle.model.specs.Records.{Rec, opening, zero_record}
 use Rattle.model.specs.Member.{Member, idle}
 use Rattle.model.specs.Host.{Entry}
 use Rattle.model.specs.Board.{Board, no_entry, opening_entry, opened, with_member}
-use Rattle.model.specs.Table.{blocks_at, block_size, entry_size, host_size, block_at, host_at, entry_at, table_size, member_of, entry_of, stored_of}
+use Rattle.model.specs.Table.{blocks_at, block_size, entry_size, host_size, block_at, host_at, entry_at, table_size, member_of}
+use Rattle.model.specs.Table.{entry_of, stored_of}
 use Rattle.model.specs.Table.{members_of, host_of, stored_records_of, board_of, member_words, entry_words, host_words, table_words}
 use Rattle.laws.proofs.Blocks.{block_sum, entry_sum, member_part, member_same, entry_same, stored_same_lem, length-member}
 use Rattle.laws.proofs.Blocks.{length-entry, member_words_lem, entry_words_lem, entry_read, stored_read, idle_read, opening_read}

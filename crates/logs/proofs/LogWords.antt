@@ -104,7 +104,8 @@ cut_rises : (row : LogRow) (above : List LogRow) → Rises row above → Rises (
 cut_rises row [] h = tt
 cut_rises row (p ∷ above) h = h
 
-cut_in_turn : (row : LogRow) (i : ℕ) (above : List LogRow) → InTurn row (row_before i above) → InTurn (cut row) (row_before i (map cut above))
+cut_in_turn : (row : LogRow) (i : ℕ) (above : List LogRow) → InTurn row (row_before i above)
+    → InTurn (cut row) (row_before i (map cut above))
 unfolding row_before
 cut_in_turn row i [] = λ h. tt
 cut_in_turn row i (p ∷ above) = split-both (λ x y. InTurn row x → InTurn (cut row) y) (eqb p.member i)

@@ -18,7 +18,8 @@ use Rattle.model.specs.Member.{returned_by}
 use Rattle.model.specs.Pairs.{halt_pairs, most_pairs}
 use Rattle.model.proofs.PairClaims.{pairs_as_asked}
 use Rattle.model.specs.Board.{sent_record}
-use Rattle.model.specs.Table.{phase_at, halt_at, slot_at, operation_at, own_at, accepted_at, last_at, pending_at, known_at, first_at, second_at}
+use Rattle.model.specs.Table.{phase_at, halt_at, slot_at, operation_at, own_at, accepted_at, last_at, pending_at, known_at}
+use Rattle.model.specs.Table.{first_at, second_at}
 use Rattle.model.specs.Table.{block_size, member_of}
 use Rattle.laws.proofs.Records.{square_small, record_of_parts, record_of-same, record_of-words, within_read}
 use Rattle.laws.proofs.Replies.{matrix_all, value_all, joined_within, halt_number-within, halt_pairs-within}
@@ -73,7 +74,8 @@ first_noted_by n w phase first =
     moved_by n v w phase (w halt_at) (record_within n first) (record_of n (from w (second_at n)))
     (put_at _ phase_at phase)
     (rest halt_at (omega arith))
-    (record_of-same n (from v (first_at n)) f (λ i h. head (first_at n + i) (omega arith) ∙ from_pasted_at (first_at n) (record_size n) f w i h)
+    (record_of-same n (from v (first_at n)) f
+    (λ i h. head (first_at n + i) (omega arith) ∙ from_pasted_at (first_at n) (record_size n) f w i h)
     ∙ record_of-words n first)
     (record_of-same n (from v (second_at n)) (from w (second_at n)) (λ i h.
     head (second_at n + i) (omega arith) ∙ pasted_off (first_at n) (record_size n) f w (second_at n + i) (omega arith)))
@@ -98,7 +100,8 @@ unfolding member_of
 known_loaded n w known lay e = e ∙ ap (λ k. matrix_of n (from w k)) lay.known
 
 -- a record, loaded from its place
-pub record_loaded : (n : ℕ) (w : ℕ → ℕ) {a b : ℕ} {r : Rec} → a ≡ b → r ≡ record_of n (from w a) → record_within n r ≡ record_of n (from w b)
+pub record_loaded : (n : ℕ) (w : ℕ → ℕ) {a b : ℕ} {r : Rec} → a ≡ b → r ≡ record_of n (from w a)
+    → record_within n r ≡ record_of n (from w b)
 record_loaded n w {a} {b} e h = ap (record_within n) (h ∙ ap (λ k. record_of n (from w k)) e) ∙ within_read n (from w b)
 
 -- The record that a member commits, as the code builds it, and what taking a reply comes to.
@@ -163,9 +166,11 @@ ceiling_small n h = omega (arith, square_small n h)
 
 -- The record that a commit sends, as the code builds it.
 pub sent_built : (n i : ℕ) (w : ℕ → ℕ) (value : List ℕ) (matrix : List Row) {places : Places} → LayoutOf n places → Within n (w slot_at)
-    → value_of (words value) ≡ value_of (from w (places.first + value_at)) → matrix_in matrix ≡ matrix_of n (from w (places.first + matrix_at))
+    → value_of (words value) ≡ value_of (from w (places.first + value_at))
+    → matrix_in matrix ≡ matrix_of n (from w (places.first + matrix_at))
     → record_in
-    (record { member = i; slot = w slot_at; operation = w operation_at; count = w (own_at + w slot_at - 1); value = value; matrix = matrix })
+    (record { member = i; slot = w slot_at; operation = w operation_at; count = w
+    (own_at + w slot_at - 1); value = value; matrix = matrix })
     ≡ sent_record i (member_of n w)
 unfolding record_in sent_record member_of
 sent_built n i w value matrix lay b e f = λ t. record {

@@ -123,7 +123,8 @@ accepted_history kind n calls boards seen d = ap reverse d.history
 
 -- The bill by hand: both sides are computed.
 pub sample_billed : SampleBilled
-unfolding times sample_accepted accepted_by of_member price prices tenths rounded_up bill total bill_line printed_bill laid digits digits_within
+unfolding times sample_accepted accepted_by of_member price prices tenths rounded_up bill total bill_line printed_bill laid digits
+    digits_within
     or_dash
 sample_billed = record {
   accepted = (refl, (refl, refl));

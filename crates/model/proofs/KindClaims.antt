@@ -125,7 +125,8 @@ chain_alike own n phase crashed count i r t h =
     let s = no_number (kind_number auction n) o.1 in
     rw (o.0, sized_alike n s.0) (begun_alike n phase crashed count i r t s.1)
 
-begin_alike_lem : (l : List ℕ) (i r t : ℕ) (v : Value) → table_answer auction l (begin i r t v) ≡ 0 → table_answer concur l (begin i r t v) ≡ 0
+begin_alike_lem : (l : List ℕ) (i r t : ℕ) (v : Value) → table_answer auction l (begin i r t v) ≡ 0
+    → table_answer concur l (begin i r t v) ≡ 0
 begin_alike_lem l i r t v h =
     let m = (board_in l).members i in
     table_chain concur l i r t v

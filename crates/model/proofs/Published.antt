@@ -133,7 +133,8 @@ same_whole : (n i : ℕ) (m : Member) (r t : ℕ) (v : Value) (newest stored : R
     → let c = line316 t v (line33 r (resting m)) in
     resting (outcome (judged (passed n i (answered (begun m r t v) newest stored) newest stored) true) true)
     ≡ after_ok r (op_of n i t r c newest) c
-unfolding resting variables begun answered passed own_record judged outcome completed dropped took_over line316 line33 after_ok line321 line326
+unfolding resting variables begun answered passed own_record judged outcome completed dropped took_over line316 line33 after_ok
+    line321 line326
     line327 op_of line319
 same_whole n i m r t v newest stored =
     let matrices = same_matrix n i r (line316 t v (line33 r (resting m))) newest in
@@ -153,7 +154,8 @@ not_barred i r t (reads j) = refl
 not_barred i r t writes = rw (eq-eqb i i refl)
 
 pub member_as_published : (n i : ℕ) → MemberAsPublished n i
-unfolding resting working variables idle client_opened begun submit_of line33 line34 line316 outcome dropped after_abort_amended line323 down
+unfolding resting working variables idle client_opened begun submit_of line33 line34 line316 outcome dropped after_abort_amended
+    line323 down
 member_as_published n i = record {
   calls = λ r t h. (called i r t h, not_barred i r t);
   opens = refl;

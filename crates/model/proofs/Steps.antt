@@ -100,7 +100,8 @@ pub data RefTaken (ref : Reference) : Call → Reference → Type 0 where
   ends : (i : ℕ) → 4 ≤ (ref.members i).phase → RefTaken ref (deliver i) (ref_end ref i)
   crashes : (i : ℕ) → RefTaken ref (crash i) (ref_with ref i (ref_marked (ref.members i)))
 
-pub ref_taken : (kind : Kind) (n : ℕ) (ref : Reference) (call : Call) → ref_answer kind n ref call ≡ 0 → RefTaken ref call (ref_done ref call)
+pub ref_taken : (kind : Kind) (n : ℕ) (ref : Reference) (call : Call) → ref_answer kind n ref call ≡ 0
+    → RefTaken ref call (ref_done ref call)
 unfolding ref_answer ref_done ref_delivered ref_commit
 ref_taken kind n ref (begin i r t v) h =
     let m = ref.members i in

@@ -19,4 +19,5 @@ pub record LengthsAsPublished : Type 0 where
   pub commit : (n : ℕ) → length_of 3 n ≡ 42 + 4 * (n * n)
   pub outcome : (n : ℕ) → length_of 4 n ≡ 3
   -- the whole table at once
-  pub table : listed 12 (length_of 1) ++ (listed 12 (length_of 2) ++ (listed 12 (length_of 3) ++ listed 12 (length_of 4))) ≡ published_lengths
+  pub table : listed 12 (length_of 1) ++ (listed 12 (length_of 2) ++ (listed 12 (length_of 3) ++ listed 12 (length_of 4)))
+    ≡ published_lengths

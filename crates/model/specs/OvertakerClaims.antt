@@ -59,7 +59,8 @@ sample_step answer one two = record { answer = answer; phases = λ i. cond (eqb 
 
 abbrev pub sample_seen : List Seen
 sample_seen =
-    sample_step 0 1 0 ∷ sample_step 0 2 0 ∷ sample_step 0 2 1 ∷ sample_step 8 2 1 ∷ sample_step 0 2 2 ∷ sample_step 0 3 2 ∷ sample_step 0 5 2 ∷ []
+    sample_step 0 1 0 ∷ sample_step 0 2 0 ∷ sample_step 0 2 1 ∷ sample_step 8 2 1 ∷ sample_step 0 2 2 ∷ sample_step 0 3 2 ∷
+    sample_step 0 5 2 ∷ []
 
 pub record SampleOvertaken (at : ℕ → Option Step) : Type 0 where
   pub slots : (slot_begun at 1 7 ≡ 1) × ((slot_begun at 2 2 ≡ 0) × (slot_begun at 2 5 ≡ 1))

@@ -14,7 +14,8 @@ use Rattle.model.specs.Kinds.{is_size}
 use Rattle.model.specs.History.{Submit}
 use Rattle.model.specs.Script.{space, line_feed, before, number_of, first_of, lines_of, field}
 use Rattle.model.specs.Overtaker.{Overtaker, refuses, names, named, well_formed, lines_overtaker, members_overtaker, script_overtaker}
-use Rattle.model.specs.Overtaker.{most_bytes, overtaker, overtaker_in, Asked, both_numbers, asked_by, for_asked, overtaker_for, printed_overtaker}
+use Rattle.model.specs.Overtaker.{most_bytes, overtaker, overtaker_in, Asked, both_numbers, asked_by, for_asked, overtaker_for}
+use Rattle.model.specs.Overtaker.{printed_overtaker}
 use Rattle.script.proofs.Lines.{first_line_lem, no_line_lem}
 use Rattle.overtaker_search.specs.Meaning.{held_overtaker}
 use Rattle.overtaker.specs.Meaning.{held_asked, Numbered}
@@ -69,7 +70,8 @@ module _ {A : Type 0} (otherwise : A) (answer : ℕ → ℕ → A) where
   none-for none f = refl
   none-for (some a) f = absurd (apart refl f)
 
-  some-for : (a : Option Asked) → (held_asked a).ok ≡ true → for_asked otherwise answer a ≡ answer (held_asked a).member (held_asked a).ordinal
+  some-for : (a : Option Asked) → (held_asked a).ok ≡ true → for_asked otherwise answer a ≡ answer (held_asked a).member
+    (held_asked a).ordinal
   unfolding held_asked for_asked
   some-for none f = absurd (apart f refl)
   some-for (some a) f = refl

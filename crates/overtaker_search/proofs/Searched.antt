@@ -166,7 +166,8 @@ module _ (i k : ℕ) where
             i refl;
       }
 
-      agrees-submits : p j ≡ 1 → Agrees (put p j 2) (with_running w j (taken_op w j) (with_submit w j)) (search_submit i k (search_next s) j)
+      agrees-submits : p j ≡ 1 → Agrees (put p j 2) (with_running w j (taken_op w j) (with_submit w j))
+      (search_submit i k (search_next s) j)
       unfolding search_submit
       agrees-submits one = on (eqb j i)
           (λ e. rw e (agrees-own one (eqb-true j i e)))
@@ -270,7 +271,8 @@ module _ (i k : ℕ) where
   agrees_after s call seen here (replies j v two d) h t a =
       rw (step-delivers s j 3 v call seen (rw here at d)) (agrees-replies s h t a j two)
   agrees_after s call seen here (judges j b three d) h t a =
-      rw (step-delivers s j (cond b 4 5) none call seen (rw here at d), deliver-judges (search_next s) j b) (agrees-judges s h t a j b three)
+      rw (step-delivers s j (cond b 4 5) none call seen (rw here at d), deliver-judges (search_next s) j b)
+      (agrees-judges s h t a j b three)
   agrees_after s call seen here (ends j v four d) h t a =
       rw (step-delivers s j 0 v call seen (rw here at d)) (agrees-ends s h t a j v four)
 

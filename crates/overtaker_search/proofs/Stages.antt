@@ -98,7 +98,8 @@ module _ (i k : ℕ) where
   ended-overtaking j at v submits [] = refl
   ended-overtaking j at v submits (o ∷ ops) =
       on (eqb o.given.member j)
-      (λ e. on (is_aborted i k o) (λ f. rw (e, ended-aborted at v o, f) (ended-first at v o submits)) (λ f. rw (e, ended-aborted at v o, f)))
+      (λ e. on (is_aborted i k o) (λ f. rw (e, ended-aborted at v o, f) (ended-first at v o submits))
+      (λ f. rw (e, ended-aborted at v o, f)))
       (λ e. on (is_aborted i k o) (λ f. rw (e, f)) (λ f. rw (e, f) (ended-overtaking j at v submits ops)))
 
   ended-none : (j at : ℕ) (v : Option Value) (ops : List Op) → aborted_op i k ops ≡ none → aborted_op i k (ended j at v ops) ≡ none
@@ -132,7 +133,8 @@ module _ (i k : ℕ) where
   past-shown : (ops : List Op) (s : Submit) (submits : List Submit) {first : Overtaker} → Every (λ o. o.verdict_at ≤ s.at) ops
       → first ≡ shown (overtaking (aborted_op i k ops) submits) → first ≡ shown (overtaking (aborted_op i k ops) (s ∷ submits))
   past-shown ops s submits h f =
-      f ∙ ap shown (sym (overtaking_past s submits (aborted_op i k ops) (λ o e. (op_found i k ops o e).listed (λ o. o.verdict_at ≤ s.at) h)))
+      f ∙ ap shown (sym (overtaking_past s submits (aborted_op i k ops)
+      (λ o e. (op_found i k ops o e).listed (λ o. o.verdict_at ≤ s.at) h)))
 
   -- a submit on its slot is the first since its own, if there was none before
   more-shown : (x : Option Submit) (first : Overtaker) (s : Submit) → first ≡ shown x

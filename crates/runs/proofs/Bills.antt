@@ -13,7 +13,8 @@ use Rattle.model.specs.Kinds.{concur}
 use Rattle.model.specs.Board.{opened}
 use Rattle.model.specs.Runs.{Call, Step}
 use Rattle.model.specs.Table.{table_words}
-use Rattle.model.specs.Script.{line_call, with_call, calls_of, stepped, step_line, steps_from, made_by, seen_of, lines_of, first_of, most_steps}
+use Rattle.model.specs.Script.{line_call, with_call, calls_of, stepped, step_line, steps_from, made_by, seen_of, lines_of}
+use Rattle.model.specs.Script.{first_of, most_steps}
 use Rattle.model.specs.Script.{ran, board_run, lines_run, script_run, script_output, printed_run}
 use Rattle.model.specs.Bill.{bill, accepted_in_order, accepted_in, printed_bill, bill_of_run, bill_output}
 use Rattle.model.specs.BillClaims.{SmallBills}

@@ -23,13 +23,15 @@ use Rattle.model.specs.Board.{opening_entry, opened, with_member, board_begun, s
 use Rattle.model.specs.Board.{outcome_taken, board_delivered, board_returned, board_crashed}
 use Rattle.model.specs.Runs.{answer_of, done, done_returns, after, seen_at, run}
 use Rattle.lists.specs.Every.{Every}
-use Rattle.model.specs.History.{nothing_yet, no_op, begun_op, submitted_op, submit_of, decided_op, ended_op, ended, watch_deliver, watch_call}
+use Rattle.model.specs.History.{nothing_yet, no_op, begun_op, submitted_op, submit_of, decided_op, ended_op, ended, watch_deliver}
+use Rattle.model.specs.History.{watch_call}
 use Rattle.model.specs.History.{watch_step, watch_from, watched}
 use Rattle.model.specs.RecordWords.{record_size, matrix_word, record_words}
 use Rattle.model.specs.Table.{accepted_at, last_at, pending_at, known_at, first_at, second_at, block_size, newest_at, entry_size, host_size}
 use Rattle.model.specs.Table.{host_at, table_size, member_words, entry_words, host_words, table_words}
 use Rattle.model.specs.TableCalls.{open_number, open_words}
-use Rattle.model.specs.Messages.{kind_of, number_bytes, byte_in, headed, record_byte, record_length, record_bytes, field_bytes, framed, encode}
+use Rattle.model.specs.Messages.{kind_of, number_bytes, byte_in, headed, record_byte, record_length, record_bytes, field_bytes}
+use Rattle.model.specs.Messages.{framed, encode}
 use Rattle.model.specs.Script.{caller}
 use Rattle.runs.specs.Case.{left, changed, opens_of, answer_to, last_word, line, printed, rows_of, record_line, record_lines, begun_line}
 use Rattle.runs.specs.Case.{decided_line, submit_line, unless, failing_of, taking_of, looking_of, found, every, alike, Case, Holds, holds}
@@ -37,13 +39,17 @@ use Rattle.runs.specs.Cases.{cases, example}
 use Rattle.runs.specs.AuctionCases.{auction_cases}
 
 pub all_pass : (every (holds concur) cases && every (holds auction) auction_cases) ≡ true
-unfolding put from within inside each looked tabulate zero_row zero_matrix below matrix_below comparable larger zero_value zero_record opening
-    is_operation barred becomes_stored fields_number begin_answer deliver_answer crash_answer idle begun answered check21 check22 check23 check24
-    check25 check26 check27 halt_number pairs22 pairs23 row_pairs25 pairs25 pairs26 pairs27 if_made halt_pairs joined own_record passed failed
+unfolding put from within inside each looked tabulate zero_row zero_matrix below matrix_below comparable larger zero_value
+    zero_record opening
+    is_operation barred becomes_stored fields_number begin_answer deliver_answer crash_answer idle begun answered check21 check22
+    check23 check24
+    check25 check26 check27 halt_number pairs22 pairs23 row_pairs25 pairs25 pairs26 pairs27 if_made halt_pairs joined own_record
+    passed failed
     replied judged completed took_over dropped outcome returned_by
     crashed_of submitted wins entry_after stored_after opening_entry opened with_member board_begun submit_taken reply_taken sent_record
     commit_taken outcome_taken board_delivered board_returned board_crashed answer_of done done_returns after seen_at run left caller
-    last_word line printed rows_of record_line record_lines begun_line decided_line submit_line nothing_yet no_op begun_op submitted_op submit_of
+    last_word line printed rows_of record_line record_lines begun_line decided_line submit_line nothing_yet no_op begun_op
+    submitted_op submit_of
     decided_op ended_op ended watch_deliver watch_call watch_step watch_from watched unless failing_of taking_of looking_of changed opens_of
     answer_to open_number
     open_words table_words member_words entry_words host_words laid table_size host_at host_size block_size entry_size newest_at second_at

@@ -121,7 +121,8 @@ module _ (n : ℕ) (size : inside 12 n ≡ true) (lines : List (List ℕ)) (form
       (overtaker_answered concur n (without 0 calls) (boards 0) (anew (without 0 calls)) (holds 0) i k))
 
 -- Lines whose first names n.
-module _ (input line : List ℕ) (lines : List (List ℕ)) (n : ℕ) (split-so : lines_of input ≡ line ∷ lines) (named_so : first_of line ≡ some n)
+module _ (input line : List ℕ) (lines : List (List ℕ)) (n : ℕ) (split-so : lines_of input ≡ line ∷ lines)
+    (named_so : first_of line ≡ some n)
     (short : length input ≤ most_bytes) (i k : ℕ) where
   module _ (size : inside 12 n ≡ true) (formed : well_formed lines ≡ true) where
     of-lines : (P : (ℕ → ℕ → Option Step) → Type 0) → P (steps_without n lines) → OfLines input P

@@ -22,7 +22,8 @@ use Rattle.model.specs.Host.{Entry, submitted, entry_after, stored_after}
 use Rattle.model.specs.Board.{Board, no_entry, opening_entry, opened, with_member, board_begun, submit_taken, reply_taken, sent_record}
 use Rattle.model.specs.Board.{commit_taken, outcome_taken, board_crashed}
 use Rattle.model.specs.Runs.{Call, begin, deliver, crash}
-use Rattle.model.specs.Table.{pending_at, last_at, first_at, second_at, slot_at, operation_at, known_at, block_size, member_of, member_words}
+use Rattle.model.specs.Table.{pending_at, last_at, first_at, second_at, slot_at, operation_at, known_at, block_size, member_of}
+use Rattle.model.specs.Table.{member_words}
 use Rattle.model.specs.Table.{entry_of, stored_of, entry_words, board_of, table_words}
 use Rattle.model.proofs.Rows.{larger_either}
 use Rattle.model.proofs.Steps.{Taken, begins, submits, replies, commits, ends, crashes, by-verdict}

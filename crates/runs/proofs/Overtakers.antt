@@ -19,7 +19,8 @@ use Rattle.model.specs.History.{Submit, watched}
 use Rattle.model.specs.Positions.{step_at}
 use Rattle.model.specs.Table.{table_words}
 use Rattle.model.specs.TableCalls.{table_run}
-use Rattle.model.specs.Script.{line_feed, line_call, with_call, calls_of, stepped, step_line, steps_from, with_byte, lines_of, first_of, most_steps}
+use Rattle.model.specs.Script.{line_feed, line_call, with_call, calls_of, stepped, step_line, steps_from, with_byte, lines_of}
+use Rattle.model.specs.Script.{first_of, most_steps}
 use Rattle.model.specs.Script.{ran, board_run, lines_run, script_run}
 use Rattle.model.specs.Overtaker.{refuses, named, overtaker_in, is_call, well_formed, lines_overtaker, members_overtaker}
 use Rattle.model.specs.Overtaker.{script_overtaker, most_bytes, overtaker}
@@ -63,7 +64,8 @@ few_lines (b ∷ l) = on (eqb b line_feed)
     (λ e. rw e (omega (arith, with_byte_lem b (lines_of l) (length l) (few_lines l))))
 
 -- Lines whose first names n.
-module _ (input line : List ℕ) (lines : List (List ℕ)) (n : ℕ) (split-so : lines_of input ≡ line ∷ lines) (named_so : first_of line ≡ some n)
+module _ (input line : List ℕ) (lines : List (List ℕ)) (n : ℕ) (split-so : lines_of input ≡ line ∷ lines)
+    (named_so : first_of line ≡ some n)
     (short : length input ≤ most_bytes) (size : inside 12 n ≡ true) (formed : well_formed lines ≡ true) (i k : ℕ) where
   abbrev steps : List (Option Step)
   steps = steps_from concur (table_words n (opened n)) lines

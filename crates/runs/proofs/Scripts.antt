@@ -15,7 +15,8 @@ use Rattle.lists.specs.Every.{Every}
 use Rattle.model.specs.Table.{table_size, table_words}
 use Rattle.model.specs.TableCalls.{open_number, open_words, table_run}
 use Rattle.model.specs.Script.{Line, writes, reads, delivers, crashes, malformed, line_of, call_of, line_call, with_call, calls_of}
-use Rattle.model.specs.Script.{stepped, step_line, steps_from, lines_of, first_of, most_steps, board_run, lines_run, script_run, printed_run}
+use Rattle.model.specs.Script.{stepped, step_line, steps_from, lines_of, first_of, most_steps, board_run, lines_run, script_run}
+use Rattle.model.specs.Script.{printed_run}
 use Rattle.model.specs.Script.{script_output, step_call, made_by, with_seen, seen_of}
 use Rattle.laws.proofs.Tables.{length-table}
 use Rattle.runs.specs.Scripts.{StepsRun, ScriptRun}

@@ -18,7 +18,8 @@ use Rattle.model.specs.Board.{opened}
 use Rattle.model.specs.Table.{table_words}
 use Rattle.model.specs.Runs.{Step}
 use Rattle.model.specs.Script.{starts_with, line_feed, first_of, step_line, steps_from, most_steps, with_byte, lines_of, Run, refused, ran}
-use Rattle.model.specs.Script.{board_run, lines_run, script_run, board_line, refused_line, printed_step, printed_steps, printed_run, script_output}
+use Rattle.model.specs.Script.{board_run, lines_run, script_run, board_line, refused_line, printed_step, printed_steps}
+use Rattle.model.specs.Script.{printed_run, script_output}
 use Rattle.script.proofs.Lines.{line_kept, members_kept}
 use Rattle.script_run.specs.Feeding.{State, Event, refuses, opens, Fed, most_kept, over_step, over, start, keep, ended, first_run}
 use Rattle.script_run.specs.Feeding.{step_run, line_run}
@@ -102,7 +103,8 @@ module _ (kind : Kind) where
   refused-ends table number lines = ap (λ l. refuses number ∷ l) (sym (left_over (ended over_step table (refuses number)).state lines refl))
 
   opened-ends : (n : ℕ) (table : List ℕ) (lines : List (List ℕ))
-      → run_events (ran n (steps_from kind table (take most_steps lines))) ≡ opens n ∷ left_events kind (ended 1 table (opens n)).state lines
+      → run_events (ran n (steps_from kind table (take most_steps lines))) ≡ opens n ∷ left_events kind
+      (ended 1 table (opens n)).state lines
   unfolding left_events run_events
   opened-ends n table lines = refl
 

@@ -10,7 +10,8 @@ use Rattle.model.specs.Records.{Rec, record_within}
 use Rattle.model.specs.Member.{Member, answered, judged, returned_by}
 use Rattle.model.specs.Host.{Entry, submitted, wins, entry_after, stored_after}
 use Rattle.model.specs.Board.{Board, with_member, submit_taken, sent_record, commit_taken}
-use Rattle.model.specs.Table.{block_size, block_at, host_size, entry_at, first_at, newest_at, stored_at, member_of, entry_of, stored_of, host_of}
+use Rattle.model.specs.Table.{block_size, block_at, host_size, entry_at, first_at, newest_at, stored_at, member_of, entry_of}
+use Rattle.model.specs.Table.{stored_of, host_of}
 use Rattle.model.specs.Table.{stored_records_of, board_of}
 use Rattle.laws.proofs.Records.{within_read}
 use Rattle.laws.proofs.Tables.{member_at, entry_at_lem, stored_at_lem}
@@ -51,7 +52,8 @@ module _ (n : ℕ) (w : ℕ → ℕ) where
       let e = stored_at_lem n w r h.least h.most in
       ap (record_within n) e ∙ within_read n (from (from w (entry_at n r)) stored_at) ∙ sym e
 
-  pub sent_within : (i : ℕ) → Within n i → record_within n (sent_record i ((board_of n w).members i)) ≡ sent_record i ((board_of n w).members i)
+  pub sent_within : (i : ℕ) → Within n i → record_within n (sent_record i ((board_of n w).members i)) ≡ sent_record i
+    ((board_of n w).members i)
   sent_within i h =
       let e = member_at n w i h.least h.most in
       ap (λ m. record_within n (sent_record i m)) e ∙ sent_read n i (from w (block_at n i)) ∙ sym (ap (sent_record i) e)

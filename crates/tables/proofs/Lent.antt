@@ -11,7 +11,8 @@ use Rattle.lists.proofs.Parts.{words_replaced}
 use Rattle.lists.proofs.Pieces.{put_back}
 use Rattle.model.specs.Member.{Member}
 use Rattle.model.specs.Board.{Board, with_member}
-use Rattle.model.specs.Table.{block_size, block_at, host_at, host_size, table_size, member_of, host_of, stored_records_of, board_of, table_words}
+use Rattle.model.specs.Table.{block_size, block_at, host_at, host_size, table_size, member_of, host_of, stored_records_of}
+use Rattle.model.specs.Table.{board_of, table_words}
 use Rattle.model.specs.Table.{sound_host}
 use Rattle.laws.proofs.Tables.{board_member_part, board_member_put, board_host_part, board_stored_part, board_host_put, table_back}
 use Rattle.member_block.specs.Needs.{Block, Running}

@@ -1,5 +1,7 @@
 -- What is said once of slices beside a call, and of records and fields laid one after the other.
-use Rattle.std.proofs.Common.{◌≡◌, ℕ, ◌+◌, ◌≤◌, Bool, true, false, cond, eqb, List, [], ◌∷◌, ◌++◌, length, take, drop, set, sym, refl, ap, ◌∙◌, append_assoc, append-nil, arith, length-append, length-drop, drop_of_length-le, length-take-le, take_at, drop_at, eq-eqb, ne_eqb, eqb-true}
+use Rattle.std.proofs.Common.{◌≡◌, ℕ, ◌+◌, ◌≤◌, Bool, true, false, cond, eqb, List, [], ◌∷◌, ◌++◌, length, take, drop, set, sym}
+use Rattle.std.proofs.Common.{refl, ap, ◌∙◌, append_assoc, append-nil, arith, length-append, length-drop, drop_of_length-le}
+use Rattle.std.proofs.Common.{length-take-le, take_at, drop_at, eq-eqb, ne_eqb, eqb-true}
 use mathlib.Core.Option.{Option, none, some}
 use lib.Seq.{sets-eq}
 use Rattle.lists.specs.Functions.{from}
@@ -46,22 +48,19 @@ module _ (kind : Kind) (n i r t : ℕ) (block given : List ℕ) where
     calls given value_size long block _ (q ∙ ap (member_begin_words kind n i block r t) (e ∙ ap value_of (from_zero (words given)))),
   )
 
--- Two of them, beside a call that leaves three things.
-module _ {A B C : Type 0} (l : List ℕ) (due : ℕ) (m : List ℕ) (due_too : ℕ) (x y : A) (z t : B) (u v : C) where
-  abbrev Leaves : A → B → C → Type 0
-  Leaves a b c = (a ≡ beside_two l due m due_too x y) × ((b ≡ beside_two l due m due_too z t) × (c ≡ beside_two l due m due_too u v))
-
-  pub refuses_first : (length l ≡ due → ⊥) → Leaves x z u
+-- Two of them beside a call: the first of the wrong length, the second, and both of the right one.
+module _ {A : Type 0} (l : List ℕ) (due : ℕ) (m : List ℕ) (due_too : ℕ) where
+  pub refuses_first : (length l ≡ due → ⊥) → (x y : A) → x ≡ beside_two l due m due_too x y
   unfolding beside_two beside
-  refuses_first ne = rw (ne_eqb (length l) due ne) (refl, (refl, refl))
+  refuses_first ne x y = rw (ne_eqb (length l) due ne)
 
-  pub refuses_second : length l ≡ due → (length m ≡ due_too → ⊥) → Leaves x z u
+  pub refuses_second : length l ≡ due → (length m ≡ due_too → ⊥) → (x y : A) → x ≡ beside_two l due m due_too x y
   unfolding beside_two beside
-  refuses_second e ne = rw (eq-eqb (length l) due e, ne_eqb (length m) due_too ne) (refl, (refl, refl))
+  refuses_second e ne x y = rw (eq-eqb (length l) due e, ne_eqb (length m) due_too ne)
 
-  pub calls_both : length l ≡ due → length m ≡ due_too → {a : A} {b : B} {c : C} → a ≡ y → b ≡ t → c ≡ v → Leaves a b c
+  pub calls_both : length l ≡ due → length m ≡ due_too → (x y : A) {z : A} → z ≡ y → z ≡ beside_two l due m due_too x y
   unfolding beside_two beside
-  calls_both e f p q r = rw (eq-eqb (length l) due e, eq-eqb (length m) due_too f) (p, (q, r))
+  calls_both e f x y p = rw (eq-eqb (length l) due e, eq-eqb (length m) due_too f) p
 
 -- Two lists written one after the other to the end of a list.
 pub both_replaced : (l p q : List ℕ) (a b : ℕ) → a + length p ≡ b → length l ≡ b + length q

@@ -40,10 +40,10 @@ returns-then-checked-ne0-clause-table_after_2 c =
     own.1.1
 
 pub bounds-table-0 : goal.bounds-table-0
-bounds-table-0 c = some_words (sound c.before.before)
+bounds-table-0 c = some_words (sound (goal.at.bounds-table-0 c).Else-checked-ne0)
 
 pub deliver_on-requires : goal.deliver_on-requires
-deliver_on-requires c = sound c.before.before
+deliver_on-requires c = sound (goal.at.deliver_on-requires c).Else-checked-ne0
 
 pub returns-clause-number_value : goal.returns-clause-number_value
 returns-clause-number_value c =

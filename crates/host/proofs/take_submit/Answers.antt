@@ -17,7 +17,7 @@ returns-then-number-ne0-clause-entries_after c =
     stays _ _ c.host_number-number.ensures ne
 
 pub submit-requires : goal.submit-requires
-submit-requires c = good_slot _ _ _ _ _ (taken c.before)
+submit-requires c = good_slot _ _ _ _ _ (taken (goal.at.submit-requires c).Else-number-ne0)
 
 pub returns-clause-newest_after : goal.returns-clause-newest_after
 unfolding submit_newest submit_stored
@@ -27,7 +27,7 @@ returns-clause-newest_after c =
     let post = s.ensures in
     let zero = eq-eqb s.result.number 0 s.ensures.number_value in
     let leaves = submit_leaves a.n a.entries.now s.new.entries s.auto.entries a.member a.slot a.operation a.count
-    (taken c.before.before.before.before.before) in
+    (taken (goal.at.returns-clause-newest_after c).Else-number-ne0) in
     rw zero post.newest_after
 
 pub returns-clause-stored_value : goal.returns-clause-stored_value
@@ -38,7 +38,7 @@ returns-clause-stored_value c =
     let post = s.ensures in
     let zero = eq-eqb s.result.number 0 s.ensures.number_value in
     let leaves = submit_leaves a.n a.entries.now s.new.entries s.auto.entries a.member a.slot a.operation a.count
-    (taken c.before.before.before.before.before) in
+    (taken (goal.at.returns-clause-stored_value c).Else-number-ne0) in
     rw zero post.stored_value
 
 pub returns-clause-entries_after : goal.returns-clause-entries_after
@@ -48,5 +48,5 @@ returns-clause-entries_after c =
     let s = c.submit in
     let post = s.ensures in
     let leaves = submit_leaves a.n a.entries.now s.new.entries s.auto.entries a.member a.slot a.operation a.count
-    (taken c.before.before.before.before.before) in
+    (taken (goal.at.returns-clause-entries_after c).Else-number-ne0) in
     leaves post.entries_after post.entries_unchanged

@@ -14,10 +14,11 @@ unfolding member_crash_words
 returns-then-number-ne0-clause-block_after c = stays _ _ c.crash_number-number.ensures c.if-number-ne0.true
 
 pub mark_crashed-requires : goal.mark_crashed-requires
-mark_crashed-requires c = crash_good _ _ _ (taken c.before)
+mark_crashed-requires c = crash_good _ _ _ (taken (goal.at.mark_crashed-requires c).Else-number-ne0)
 
 pub returns-clause-block_after : goal.returns-clause-block_after
 unfolding member_crash_words
 returns-clause-block_after c =
-    let long = c.mark_crashed.auto.block ∙ (crash_good _ _ _ (taken c.before.before.before.before.before)).long in
-    words_made _ c.args.block.now _ _ (taken c.before.before.before.before.before) long c.mark_crashed.ensures
+    let else_number_ne0 = (goal.at.returns-clause-block_after c).Else-number-ne0 in
+    let long = c.mark_crashed.auto.block ∙ (crash_good _ _ _ (taken else_number_ne0)).long in
+    words_made _ c.args.block.now _ _ (taken else_number_ne0) long c.mark_crashed.ensures

@@ -31,18 +31,19 @@ returns-then-number-ne0-clause-block_after c =
     stays _ _ e c.if-number-ne0.true
 
 pub finish-requires : goal.finish-requires
-finish-requires c = runs c.before
+finish-requires c = runs (goal.at.finish-requires c).Else-number-ne0
 
 pub returns-clause-result_value : goal.returns-clause-result_value
 unfolding outcome_returns outcome_words
 returns-clause-result_value c =
     let t = c.finish.ensures in
-    becomes _ _ (taken c.before.before.before.before.before) t.taken.value
+    becomes _ _ (taken (goal.at.returns-clause-result_value c).Else-number-ne0) t.taken.value
 
 pub returns-clause-block_after : goal.returns-clause-block_after
 unfolding outcome_returns outcome_words
 returns-clause-block_after c =
+    let else_number_ne0 = (goal.at.returns-clause-block_after c).Else-number-ne0 in
     let a = c.args in
     let t = c.finish.ensures in
-    let long = c.finish.auto.block ∙ (runs c.before.before.before.before.before).block.long in
-    words_made a.n a.block.now c.finish.new.block _ (taken c.before.before.before.before.before) long t.block_after
+    let long = c.finish.auto.block ∙ (runs else_number_ne0).block.long in
+    words_made a.n a.block.now c.finish.new.block _ (taken else_number_ne0) long t.block_after

@@ -28,19 +28,19 @@ returns-then-number-ne0-clause-block_after c =
     stays _ _ e c.if-number-ne0.true
 
 pub reply-pairs-requires : goal.reply-pairs-requires
-reply-pairs-requires c = reply_good _ _ _ _ _ _ (taken c.before)
+reply-pairs-requires c = reply_good _ _ _ _ _ _ (taken (goal.at.reply-pairs-requires c).Else-number-ne0)
 
 pub returns-clause-pairs_value : goal.returns-clause-pairs_value
 unfolding reply_words reply_pairs
 returns-clause-pairs_value c =
-    let e = taken c.before.before.before.before.before in
+    let e = taken (goal.at.returns-clause-pairs_value c).Else-number-ne0 in
     let pairs = c.reply-pairs.ensures.result_value in
     becomes _ _ e pairs
 
 pub returns-clause-pairs_bound : goal.returns-clause-pairs_bound
 unfolding reply_words reply_pairs
 returns-clause-pairs_bound c =
-    let e = taken c.before.before.before.before.before in
+    let e = taken (goal.at.returns-clause-pairs_bound c).Else-number-ne0 in
     let good = reply_good _ _ _ _ _ _ e in
     let pairs = c.reply-pairs.ensures.result_value in
     few_pairs good.0 good.1 _ _ _ pairs
@@ -48,7 +48,7 @@ returns-clause-pairs_bound c =
 pub returns-clause-block_after : goal.returns-clause-block_after
 unfolding reply_words reply_pairs
 returns-clause-block_after c =
-    let e = taken c.before.before.before.before.before in
+    let e = taken (goal.at.returns-clause-block_after c).Else-number-ne0 in
     let good = reply_good _ _ _ _ _ _ e in
     words_made _ c.args.block.now _ _ e (c.reply-pairs.auto.block ∙ good.0.block.long)
     c.reply-pairs.ensures.block_after

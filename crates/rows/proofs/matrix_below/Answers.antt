@@ -11,29 +11,18 @@ use Rattle.rows.specs.Meaning.{no_row}
 use Rattle.rows.proofs.Laws.{row_at, answer_below}
 use Rattle.rows.proofs.matrix_below.Invariants.{test, cost}
 use Rattle.rows.proofs.matrix_below.Goals as goal
-use Rattle.rows.proofs.matrix_below.Goals.{After-compare-row, After-equal_or_below, At-loop-j, Start}
-
-abbrev start : At-loop-j → Start
-start c = c.before.before
-
-abbrev at_loop : After-compare-row → At-loop-j
-at_loop c = c.before.before.before.before
-
-abbrev compared : After-equal_or_below → After-compare-row
-compared c = c.before.before
+use Rattle.rows.proofs.matrix_below.Goals.{After-equal_or_below}
 
 -- the row at hand, by the answer
 tested : (c : After-equal_or_below) →
-    let loop = at_loop (compared c) in
-    let a = (start loop).args in
-    c.equal_or_below.result ≡ test a.n a.a a.b (loop.loop-j.j + 1)
+    let a = c.args in
+    c.equal_or_below.result ≡ test a.n a.a a.b (c.loop-j.j + 1)
 tested c =
-    let loop = at_loop (compared c) in
-    let a = (start loop).args in
-    let j = loop.loop-j.j in
+    let a = c.args in
+    let j = c.loop-j.j in
     let h : j < 12 = omega arith in
     rw (row_at a.a j h, row_at a.b j h)
-    (answer_below (min a.n 12) (get_or a.a j no_row) (get_or a.b j no_row) (compared c).compare-row.ensures.answer_value
+    (answer_below (min a.n 12) (get_or a.a j no_row) (get_or a.b j no_row) c.compare-row.ensures.answer_value
     c.equal_or_below.ensures)
 
 pub loop-j-init : goal.loop-j-init
@@ -42,31 +31,29 @@ loop-j-init c = (search rules, (omega arith, walk_starts _ _ 12))
 pub returns-then-not-equal_or_below-clause-passed_value : goal.returns-then-not-equal_or_below-clause-passed_value
 unfolding matrix_below row_pairs25
 returns-then-not-equal_or_below-clause-passed_value c =
-    let row = compared c.before in
-    let loop = at_loop row in
-    let a = (start loop).args in
-    (walk-stops (test a.n a.a a.b) (cost a.n) 12 loop.loop-j.invariant.1.1 (tested c.before) row.compare-row.ensures.pairs_value
+    let a = c.args in
+    (walk-stops (test a.n a.a a.b) (cost a.n) 12 c.loop-j.invariant.1.1
+    (tested (goal.at.returns-then-not-equal_or_below-clause-passed_value c).After-equal_or_below)
+    c.compare-row.ensures.pairs_value
     (min a.n 12) (omega arith) c.if-not-equal_or_below.true-raw).0
 
 pub returns-then-not-equal_or_below-clause-pairs_value : goal.returns-then-not-equal_or_below-clause-pairs_value
 unfolding matrix_below row_pairs25
 returns-then-not-equal_or_below-clause-pairs_value c =
-    let row = compared c.before in
-    let loop = at_loop row in
-    let a = (start loop).args in
-    (walk-stops (test a.n a.a a.b) (cost a.n) 12 loop.loop-j.invariant.1.1 (tested c.before) row.compare-row.ensures.pairs_value
+    let a = c.args in
+    (walk-stops (test a.n a.a a.b) (cost a.n) 12 c.loop-j.invariant.1.1
+    (tested (goal.at.returns-then-not-equal_or_below-clause-pairs_value c).After-equal_or_below) c.compare-row.ensures.pairs_value
     (min a.n 12) (omega arith) c.if-not-equal_or_below.true-raw).1
 
 pub loop-j-preserved : goal.loop-j-preserved
 loop-j-preserved c =
-    let row = compared c.before in
-    let loop = at_loop row in
-    let a = (start loop).args in
-    let e = row.compare-row.ensures.pairs_value in (
+    let a = c.args in
+    let e = c.compare-row.ensures.pairs_value in (
       search rules,
       (
         search rules,
-        walks-on (test a.n a.a a.b) (cost a.n) 12 loop.loop-j.invariant.1.1 (tested c.before) e (omega (arith, e))
+        walks-on (test a.n a.a a.b) (cost a.n) 12 c.loop-j.invariant.1.1
+        (tested (goal.at.loop-j-preserved c).After-equal_or_below) e (omega (arith, e))
             c.if-not-equal_or_below.false-raw,
       ),
     )
@@ -74,13 +61,13 @@ loop-j-preserved c =
 pub returns-clause-passed_value : goal.returns-clause-passed_value
 unfolding matrix_below row_pairs25
 returns-clause-passed_value c =
-    let a = (start c.before).args in
-    let l = c.before.loop-j in
+    let a = c.args in
+    let l = c.loop-j in
     (walk_ends (test a.n a.a a.b) (cost a.n) 12 l.invariant.1.1 (let e : l.j ≡ min a.n 12 = omega arith in e)).0
 
 pub returns-clause-pairs_value : goal.returns-clause-pairs_value
 unfolding matrix_below row_pairs25
 returns-clause-pairs_value c =
-    let a = (start c.before).args in
-    let l = c.before.loop-j in
+    let a = c.args in
+    let l = c.loop-j in
     (walk_ends (test a.n a.a a.b) (cost a.n) 12 l.invariant.1.1 (let e : l.j ≡ min a.n 12 = omega arith in e)).1

@@ -5,8 +5,8 @@ use Rattle.rules.proofs.is_barred.Goals as goal
 
 pub returns-then-operation-eq-WRITE : goal.returns-then-operation-eq-WRITE
 unfolding barred
-returns-then-operation-eq-WRITE c = rw (eq-eqb c.before.args.operation 2 c.if-operation-eq-WRITE.true)
+returns-then-operation-eq-WRITE c = rw (eq-eqb c.args.operation 2 c.if-operation-eq-WRITE.true)
 
 pub returns : goal.returns
 unfolding barred
-returns c = rw (ne_eqb c.before.args.operation 2 c.if-operation-eq-WRITE.false)
+returns c = rw (ne_eqb c.args.operation 2 c.if-operation-eq-WRITE.false)

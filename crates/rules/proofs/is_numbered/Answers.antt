@@ -5,8 +5,8 @@ use Rattle.rules.proofs.is_numbered.Goals as goal
 
 pub returns-then-k-lt1 : goal.returns-then-k-lt1
 unfolding inside
-returns-then-k-lt1 c = rw (lt-leb 1 c.before.args.k c.if-k-lt1.true)
+returns-then-k-lt1 c = rw (lt-leb 1 c.args.k c.if-k-lt1.true)
 
 pub returns : goal.returns
 unfolding inside
-returns c = rw (le-leb 1 c.before.args.k c.if-k-lt1.false)
+returns c = rw (le-leb 1 c.args.k c.if-k-lt1.false)

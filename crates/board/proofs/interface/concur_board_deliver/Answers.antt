@@ -11,20 +11,12 @@ use Rattle.board.proofs.Answers.{call_returns, good, of_deliver, some_words}
 use Rattle.board.specs.Interface.{Beside}
 use Rattle.board.proofs.Beside.{done-beside, handed, long-beside, own_beside, returned_kept, returned_written}
 use Rattle.board.proofs.interface.concur_board_deliver.Goals as goal
-use Rattle.board.proofs.interface.concur_board_deliver.Lts as lts
-use Rattle.board.proofs.interface.concur_board_deliver.Reads as reads
-use Rattle.board.proofs.interface.concur_board_deliver.Tie as tie
+use Rattle.board.proofs.interface.concur_board_deliver.Goals.{After-deliver_on-done, Else-number-ne0}
 
-abbrev At-After-deliver_on-done : Type 0
-At-After-deliver_on-done = lts.After-deliver_on tie.the-claims reads.Pre reads.Post tie.handed_clauses
-
-abbrev At-Else-number-ne0 : Type 0
-At-Else-number-ne0 = lts.Else1 tie.the-claims reads.Pre reads.Post tie.handed_clauses
-
-sound : (c : At-Else-number-ne0) → let l = c.args.table.now in Sound (words l 0) l
+sound : (c : Else-number-ne0) → let l = c.args.table.now in Sound (words l 0) l
 sound c = good _ (sym c.table_number-number.ensures ∙ c.if-number-ne0.false)
 
-done : (c : At-After-deliver_on-done) → let a = c.args in
+done : (c : After-deliver_on-done) → let a = c.args in
     Beside concur (length a.returned.now) 9 a.table.now (deliver a.member)
     c.deliver_on-done.result.number c.deliver_on-done.new.table
 done c =
@@ -66,36 +58,38 @@ returns-then-returned-ne9-clause-returned_after c =
     returned_kept _ _ _ b.0 (λ e. omega arith)
 
 pub bounds-table-0 : goal.bounds-table-0
-bounds-table-0 c = some_words (sound c.before.before.before)
+bounds-table-0 c = some_words (sound (goal.at.bounds-table-0 c).Else-number-ne0)
 
 pub deliver_on-done-requires : goal.deliver_on-done-requires
-deliver_on-done-requires c = sound c.before.before.before.before
+deliver_on-done-requires c = sound (goal.at.deliver_on-done-requires c).Else-number-ne0
 
 pub returns-then-number-ne0-2-clause-value : goal.returns-then-number-ne0-2-clause-value
-returns-then-number-ne0-2-clause-value c = let b = done c.before.before.before.before in
+returns-then-number-ne0-2-clause-value c = let b = done (goal.at.returns-then-number-ne0-2-clause-value c).After-deliver_on-done in
     b.0
 
 pub returns-then-number-ne0-2-clause-table_after : goal.returns-then-number-ne0-2-clause-table_after
-returns-then-number-ne0-2-clause-table_after c = let b = done c.before.before.before.before in
+returns-then-number-ne0-2-clause-table_after c = let b = done
+    (goal.at.returns-then-number-ne0-2-clause-table_after c).After-deliver_on-done in
     b.1
 
 pub returns-then-number-ne0-2-clause-returned_after : goal.returns-then-number-ne0-2-clause-returned_after
-returns-then-number-ne0-2-clause-returned_after c = let b = done c.before.before.before.before in
+returns-then-number-ne0-2-clause-returned_after c = let b = done
+    (goal.at.returns-then-number-ne0-2-clause-returned_after c).After-deliver_on-done in
     returned_kept _ _ _ b.0 c.if-number-ne0-2.true
 
 pub returns-clause-value : goal.returns-clause-value
 returns-clause-value c =
-    let k = sym c.if-number-ne0-2.false ∙ (done c.before.before.before.before.before.before.before.before.before).0 in
+    let k = sym c.if-number-ne0-2.false ∙ (done (goal.at.returns-clause-value c).After-deliver_on-done).0 in
     k
 
 pub returns-clause-table_after : goal.returns-clause-table_after
 returns-clause-table_after c =
-    (done c.before.before.before.before.before.before.before.before.before).1
+    (done (goal.at.returns-clause-table_after c).After-deliver_on-done).1
 
 pub returns-clause-returned_after : goal.returns-clause-returned_after
 returns-clause-returned_after c =
     let r = c.deliver_on-done.ensures in
-    let k = sym c.if-number-ne0-2.false ∙ (done c.before.before.before.before.before.before.before.before.before).0 in
+    let k = sym c.if-number-ne0-2.false ∙ (done (goal.at.returns-clause-returned_after c).After-deliver_on-done).0 in
     let e = of_deliver concur _ _ c.table_number-number.ensures in
     let value = call_returns concur _ c.deliver_on-done.new.table _ e c.if-number-ne0.false r.result_value in
     returned_written _ _ _ k (c.hand_out.ensures ∙ handed c.deliver_on-done.result _ value r.value_value)

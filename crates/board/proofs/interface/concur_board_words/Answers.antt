@@ -20,4 +20,4 @@ table_size-requires c = inside_high 12 _ (sized c)
 
 pub returns : goal.returns
 unfolding words_for
-returns c = rw (sized c.before) c.table_size.ensures.0
+returns c = rw (sized (goal.at.returns c).Else-not-is_numbered) c.table_size.ensures.0

@@ -4,7 +4,8 @@ use Rattle.board.proofs.Answers.{call-done, of_begin, own_call}
 use Rattle.board.proofs.kinds.begin_by.Goals as goal
 
 pub returns-then-number-ne0 : goal.returns-then-number-ne0
-returns-then-number-ne0 c kind limit most = own_call kind _ _ _ (of_begin kind _ _ _ _ _ (c.begin_number-number.ensures.value kind most)) c.if-number-ne0.true
+returns-then-number-ne0 c kind limit most = own_call kind _ _ _
+    (of_begin kind _ _ _ _ _ (c.begin_number-number.ensures.value kind most)) c.if-number-ne0.true
 
 pub returns : goal.returns
 returns c kind limit most =

@@ -6,14 +6,9 @@ use Rattle.model.specs.TableCalls.{begin_number}
 use Rattle.table_calls.specs.Needs.{Sound}
 use Rattle.board.proofs.Answers.{good, some_words}
 use Rattle.board.proofs.kinds.begin_number.Goals as goal
-use Rattle.board.proofs.kinds.begin_number.Lts as lts
-use Rattle.board.proofs.kinds.begin_number.Reads as reads
-use Rattle.board.proofs.kinds.begin_number.Tie as tie
+use Rattle.board.proofs.kinds.begin_number.Goals.{Else-refused-ne0}
 
-abbrev At-Else-refused-ne0 : Type 0
-At-Else-refused-ne0 = lts.Else1 tie.the-claims reads.Pre reads.Post tie.handed_clauses
-
-sound : (c : At-Else-refused-ne0) → let l = c.args.table.now in Sound (words l 0) l
+sound : (c : Else-refused-ne0) → let l = c.args.table.now in Sound (words l 0) l
 sound c = good _ (sym c.table_number-refused.ensures ∙ c.if-refused-ne0.false)
 
 pub returns-then-refused-ne0-clause-value : goal.returns-then-refused-ne0-clause-value
@@ -21,7 +16,7 @@ unfolding begin_number
 returns-then-refused-ne0-clause-value c = λ kind most. number_refuses _ c.table_number-refused.ensures c.if-refused-ne0.true
 
 pub bounds-table-0 : goal.bounds-table-0
-bounds-table-0 c = some_words (sound c.before.before)
+bounds-table-0 c = some_words (sound (goal.at.bounds-table-0 c).Else-refused-ne0)
 
 pub returns-clause-value : goal.returns-clause-value
 unfolding begin_number
@@ -29,4 +24,4 @@ returns-clause-value c = λ kind most. number_passes c.table_number-refused.ensu
 
 pub returns-clause-fact : goal.returns-clause-fact
 unfolding begin_number
-returns-clause-fact c = λ z. sound c.before.before.before
+returns-clause-fact c = λ z. sound (goal.at.returns-clause-fact c).Else-refused-ne0

@@ -8,31 +8,18 @@ use Rattle.model.specs.Script.{line_of, lines_of}
 use Rattle.script.specs.Meaning.{held_line}
 use Rattle.overtaker.proofs.NextLine.{NextLine, next_line}
 use Rattle.cause.proofs.Searching.{searching_first, passes-own, passes-other, finds, finds_none}
-use Rattle.cause.proofs.lines.search_steps.Invariants.{Passed}
 use Rattle.cause.proofs.lines.search_steps.Goals as goal
-use Rattle.cause.proofs.lines.search_steps.Lts as lts
-use Rattle.cause.proofs.lines.search_steps.Reads as reads
-use Rattle.cause.proofs.lines.search_steps.Tie as tie
-
-abbrev At-After-line_length : Type 0
-At-After-line_length = lts.After-line_length tie.the-claims reads.Pre reads.Post goal.the-invariant-loop-at goal.the-decreases-loop-at
-
-abbrev At-After-parse_line-line : Type 0
-At-After-parse_line-line = lts.After-parse_line tie.the-claims reads.Pre reads.Post goal.the-invariant-loop-at goal.the-decreases-loop-at
+use Rattle.cause.proofs.lines.search_steps.Goals.{After-line_length, After-parse_line-line}
 
 -- What is known at each place, built on the place before.
 
-abbrev known : (c : At-After-line_length) → let a = c.args in
-    Passed a.script.now a.n a.member a.ordinal a.from c.loop-at.table c.loop-at.at c.loop-at.number
-known c = c.loop-at.invariant
-
-next : (c : At-After-line_length)
+next : (c : After-line_length)
     → NextLine c.args.script.now c.loop-at.at c.line_length.result
 next c =
     next_line c.args.script.now c.loop-at.at c.loop-at-test.true c.line_length.result c.line_length.ensures
 
 -- the member that the line names
-line_member : (c : At-After-parse_line-line) → let at = c.loop-at.at in
+line_member : (c : After-parse_line-line) → let at = c.loop-at.at in
     c.parse_line-line.result.member
     ≡ (held_line (line_of (take (at + c.line_length.result - at) (drop at c.args.script.now)))).member
 line_member c = ap (λ r. r.member) c.parse_line-line.ensures
@@ -53,15 +40,15 @@ loop-at-init c =
     }
 
 pub overflow_add-end : goal.overflow_add-end
-overflow_add-end c = omega (arith, (next c.before).within, (known c.before).short)
+overflow_add-end c = omega (arith, (next c).within, c.loop-at.invariant.short)
 
 pub slice_bounds-parse_line-end : goal.slice_bounds-parse_line-end
-slice_bounds-parse_line-end c = let n = next c.before in search rules
+slice_bounds-parse_line-end c = let n = next c in search rules
 
 pub loop-at-preserved-then-line-member : goal.loop-at-preserved-then-line-member
 loop-at-preserved-then-line-member c =
     let a = c.args in
-    let i = known c.before.before.before.before.before in
+    let i = c.loop-at.invariant in
     record {
       size = i.size;
       long = i.long;
@@ -69,23 +56,24 @@ loop-at-preserved-then-line-member c =
       count = omega (arith, i.count);
       overtaken = i.overtaken;
       searching = passes-own a.n (lines_of (drop a.from a.script.now)) a.member a.ordinal i.overtaken a.script.now
-          c.loop-at.at c.line_length.result (next c.before.before.before.before.before) c.loop-at.number i.searching
-          (sym (line_member c.before.before.before) ∙ c.if-line-member.true);
+          c.loop-at.at c.line_length.result (next (goal.at.loop-at-preserved-then-line-member c).After-line_length)
+          c.loop-at.number i.searching
+          (sym (line_member (goal.at.loop-at-preserved-then-line-member c).After-parse_line-line) ∙ c.if-line-member.true);
     }
 
 pub returns-then-left-eq31 : goal.returns-then-left-eq31
 returns-then-left-eq31 c =
     let a = c.args in
-    let i = known c.before.before.before.before.before.before.before.before.before.before.before in
+    let i = c.loop-at.invariant in
     sym (finds a.n (lines_of (drop a.from a.script.now)) a.member a.ordinal i.overtaken a.script.now
-    c.loop-at.at c.line_length.result (next c.before.before.before.before.before.before.before.before.before.before.before) c.loop-at.number i.searching
-    (λ e. c.if-line-member.false (line_member c.before.before.before.before.before.before.before.before.before ∙ e))
+    c.loop-at.at c.line_length.result (next (goal.at.returns-then-left-eq31 c).After-line_length) c.loop-at.number i.searching
+    (λ e. c.if-line-member.false (line_member (goal.at.returns-then-left-eq31 c).After-parse_line-line ∙ e))
     (ap (λ r. r.number) (sym c.search_board-left.ensures) ∙ c.if-left-eq31.true))
 
 pub loop-at-preserved : goal.loop-at-preserved
 loop-at-preserved c =
     let a = c.args in
-    let i = known c.before.before.before.before.before.before.before.before.before.before.before in
+    let i = c.loop-at.invariant in
     record {
       size = i.size;
       long = c.search_board-left.auto.table ∙ i.long;
@@ -93,8 +81,8 @@ loop-at-preserved c =
       count = omega (arith, i.count);
       overtaken = i.overtaken;
       searching = passes-other a.n (lines_of (drop a.from a.script.now)) a.member a.ordinal i.overtaken a.script.now
-          c.loop-at.at c.line_length.result (next c.before.before.before.before.before.before.before.before.before.before.before) c.loop-at.number i.searching
-          (λ e. c.if-line-member.false (line_member c.before.before.before.before.before.before.before.before.before ∙ e))
+          c.loop-at.at c.line_length.result (next (goal.at.loop-at-preserved c).After-line_length) c.loop-at.number i.searching
+          (λ e. c.if-line-member.false (line_member (goal.at.loop-at-preserved c).After-parse_line-line ∙ e))
           (λ e. c.if-left-eq31.false (ap (λ r. r.number) c.search_board-left.ensures ∙ e));
     }
 

@@ -35,7 +35,7 @@ by_rows known newest i r p q =
 abbrev test_at : At-loop-k → ℕ → Bool
 test_at c = let g = c.args in test g.member (get_or g.known (g.slot - 1) no_row) (get_or g.newest (g.slot - 1) no_row)
 
-entry : (c : After-not_above-entry) → c.not_above-entry.result.passed ≡ test_at c.before.before.before.before (c.loop-k.k + 1)
+entry : (c : After-not_above-entry) → c.not_above-entry.result.passed ≡ test_at (goal.at.After-not_above-entry c).At-loop-k (c.loop-k.k + 1)
 entry c =
     let g = c.args in
     tested g.member (get_or g.known (g.slot - 1) no_row) (get_or g.newest (g.slot - 1) no_row) c.loop-k.k (omega arith)
@@ -61,33 +61,43 @@ loop-k-init c = (search rules, walk_starts _ _ 1)
 
 pub returns-then-not-entry-clause-passed_value : goal.returns-then-not-entry-clause-passed_value
 returns-then-not-entry-clause-passed_value c =
+    let at_loop_k = (goal.at.returns-then-not-entry-clause-passed_value c).At-loop-k in
     let g = c.args in
-    (of_matrices c.before.before.before.before.before.before.before
-    (walk-stops (test_at c.before.before.before.before.before.before.before) (otherwise g.member 1) 1 c.loop-k.invariant.1 (entry c.before.before.before) c.not_above-entry.ensures.pairs_value g.n (omega arith)
+    (of_matrices at_loop_k
+    (walk-stops (test_at at_loop_k) (otherwise g.member 1) 1 c.loop-k.invariant.1
+    (entry (goal.at.returns-then-not-entry-clause-passed_value c).After-not_above-entry) c.not_above-entry.ensures.pairs_value g.n
+    (omega arith)
     c.if-not-entry.true)).0
 
 pub returns-then-not-entry-clause-pairs_value : goal.returns-then-not-entry-clause-pairs_value
 returns-then-not-entry-clause-pairs_value c =
+    let at_loop_k = (goal.at.returns-then-not-entry-clause-pairs_value c).At-loop-k in
     let g = c.args in
-    (of_matrices c.before.before.before.before.before.before.before
-    (walk-stops (test_at c.before.before.before.before.before.before.before) (otherwise g.member 1) 1 c.loop-k.invariant.1 (entry c.before.before.before) c.not_above-entry.ensures.pairs_value g.n (omega arith)
+    (of_matrices at_loop_k
+    (walk-stops (test_at at_loop_k) (otherwise g.member 1) 1 c.loop-k.invariant.1
+    (entry (goal.at.returns-then-not-entry-clause-pairs_value c).After-not_above-entry) c.not_above-entry.ensures.pairs_value g.n
+    (omega arith)
     c.if-not-entry.true)).1
 
 pub loop-k-preserved : goal.loop-k-preserved
 loop-k-preserved c =
+    let at_not_above_entry = (goal.at.loop-k-preserved c).After-not_above-entry in
     let g = c.args in (
       search rules,
-      walks-on (test_at c.before.before.before.before.before.before.before) (otherwise g.member 1) 1 c.loop-k.invariant.1 (entry c.before.before.before) c.not_above-entry.ensures.pairs_value (most c.before.before.before) c.if-not-entry.false,
+      walks-on (test_at (goal.at.loop-k-preserved c).At-loop-k) (otherwise g.member 1) 1 c.loop-k.invariant.1
+      (entry at_not_above_entry) c.not_above-entry.ensures.pairs_value (most at_not_above_entry) c.if-not-entry.false,
     )
 
 pub returns-clause-passed_value : goal.returns-clause-passed_value
 returns-clause-passed_value c =
+    let at_loop_k = (goal.at.returns-clause-passed_value c).At-loop-k in
     let g = c.args in
-    (of_matrices c.before
-    (walk_ends (test_at c.before) (otherwise g.member 1) 1 c.loop-k.invariant.1 (let e : c.loop-k.k ≡ g.n = omega arith in e))).0
+    (of_matrices at_loop_k
+    (walk_ends (test_at at_loop_k) (otherwise g.member 1) 1 c.loop-k.invariant.1 (let e : c.loop-k.k ≡ g.n = omega arith in e))).0
 
 pub returns-clause-pairs_value : goal.returns-clause-pairs_value
 returns-clause-pairs_value c =
+    let at_loop_k = (goal.at.returns-clause-pairs_value c).At-loop-k in
     let g = c.args in
-    (of_matrices c.before
-    (walk_ends (test_at c.before) (otherwise g.member 1) 1 c.loop-k.invariant.1 (let e : c.loop-k.k ≡ g.n = omega arith in e))).1
+    (of_matrices at_loop_k
+    (walk_ends (test_at at_loop_k) (otherwise g.member 1) 1 c.loop-k.invariant.1 (let e : c.loop-k.k ≡ g.n = omega arith in e))).1

@@ -60,11 +60,12 @@ entry c =
       row_of a.newest a.slot (omega arith) (omega arith),
       count_of (get_or a.stored (a.slot - 1) no_row) a.slot (omega arith) (omega arith),
       count_of (get_or a.newest (a.slot - 1) no_row) a.slot (omega arith) (omega arith),
-      ← rows c.before.before.before.before.before.before,
+      ← rows (goal.at.After-equal-entry c).After-matrix_below-rows,
     ) c.equal-entry.ensures.passed_value
 
 pair : (c : After-equal-entry) → c.equal-entry.result.pairs ≡ cond (ordered c) 1 0
-pair c = c.equal-entry.ensures.pairs_value ∙ ap (λ p. cond (not p) 0 1) (rows c.before.before.before.before.before.before) ∙ one (ordered c)
+pair c = c.equal-entry.ensures.pairs_value ∙ ap (λ p. cond (not p) 0 1)
+    (rows (goal.at.After-equal-entry c).After-matrix_below-rows) ∙ one (ordered c)
 
 at_most_one : (p : Bool) {k : ℕ} → k ≡ cond p 1 0 → k ≤ 1
 at_most_one true e = omega arith
@@ -72,12 +73,17 @@ at_most_one false e = omega arith
 
 pub overflow_add-pairs : goal.overflow_add-pairs
 overflow_add-pairs c =
-    omega (arith, few c.before.before.before.before.before.before.before.before, at_most_one (ordered c.before.before) (pair c.before.before))
+    let at_equal_entry = (goal.at.overflow_add-pairs c).After-equal-entry in
+    omega (arith, few (goal.at.overflow_add-pairs c).After-matrix_below-rows, at_most_one (ordered at_equal_entry) (pair at_equal_entry))
 
 pub returns-clause-passed_value : goal.returns-clause-passed_value
 unfolding check25 pairs25
-returns-clause-passed_value c = ap₂ (λ p q. p && q) (rows c.before.before.before.before.before.before.before.before.before.before) (entry c.before.before.before.before) ∙ both (ordered c.before.before.before.before) (agrees c.before.before.before.before)
+returns-clause-passed_value c =
+    let at_equal_entry = (goal.at.returns-clause-passed_value c).After-equal-entry in
+    ap₂ (λ p q. p && q) (rows (goal.at.returns-clause-passed_value c).After-matrix_below-rows) (entry at_equal_entry)
+    ∙ both (ordered at_equal_entry) (agrees at_equal_entry)
 
 pub returns-clause-pairs_value : goal.returns-clause-pairs_value
 unfolding check25 pairs25
-returns-clause-pairs_value c = ap₂ (λ p q. p + q) (row_pairs c.before.before.before.before.before.before.before.before.before.before) (pair c.before.before.before.before)
+returns-clause-pairs_value c = ap₂ (λ p q. p + q) (row_pairs (goal.at.returns-clause-pairs_value c).After-matrix_below-rows)
+    (pair (goal.at.returns-clause-pairs_value c).After-equal-entry)

@@ -31,7 +31,7 @@ tested n i known newest j p h e =
 abbrev test_at : At-loop-j → ℕ → Bool
 test_at c = let g = c.args in test g.n g.slot g.known g.newest
 
-row : (c : After-in_order-row) → c.in_order-row.result.passed ≡ test_at c.before.before.before.before (c.loop-j.j + 1)
+row : (c : After-in_order-row) → c.in_order-row.result.passed ≡ test_at (goal.at.After-in_order-row c).At-loop-j (c.loop-j.j + 1)
 row c =
     let g = c.args in
     tested g.n g.slot g.known g.newest c.loop-j.j (omega arith) (omega arith) c.in_order-row.ensures.passed_value
@@ -55,30 +55,40 @@ loop-j-init c = (search rules, walk_starts _ _ 12)
 pub returns-then-not-row-clause-passed_value : goal.returns-then-not-row-clause-passed_value
 unfolding check26 pairs26
 returns-then-not-row-clause-passed_value c =
+    let at_in_order_row = (goal.at.returns-then-not-row-clause-passed_value c).After-in_order-row in
     let g = c.args in
-    (walk-stops (test_at c.before.before.before.before.before.before.before) (otherwise g.slot g.n) 12 c.loop-j.invariant.1 (row c.before.before.before) (pairs c.before.before.before) g.n (omega arith) c.if-not-row.true).0
+    (walk-stops (test_at (goal.at.returns-then-not-row-clause-passed_value c).At-loop-j)
+    (otherwise g.slot g.n) 12 c.loop-j.invariant.1 (row at_in_order_row) (pairs at_in_order_row) g.n
+    (omega arith) c.if-not-row.true).0
 
 pub returns-then-not-row-clause-pairs_value : goal.returns-then-not-row-clause-pairs_value
 unfolding check26 pairs26
 returns-then-not-row-clause-pairs_value c =
+    let at_in_order_row = (goal.at.returns-then-not-row-clause-pairs_value c).After-in_order-row in
     let g = c.args in
-    (walk-stops (test_at c.before.before.before.before.before.before.before) (otherwise g.slot g.n) 12 c.loop-j.invariant.1 (row c.before.before.before) (pairs c.before.before.before) g.n (omega arith) c.if-not-row.true).1
+    (walk-stops (test_at (goal.at.returns-then-not-row-clause-pairs_value c).At-loop-j)
+    (otherwise g.slot g.n) 12 c.loop-j.invariant.1 (row at_in_order_row) (pairs at_in_order_row) g.n
+    (omega arith) c.if-not-row.true).1
 
 pub loop-j-preserved : goal.loop-j-preserved
 loop-j-preserved c =
+    let at_in_order_row = (goal.at.loop-j-preserved c).After-in_order-row in
     let g = c.args in (
       search rules,
-      walks-on (test_at c.before.before.before.before.before.before.before) (otherwise g.slot g.n) 12 c.loop-j.invariant.1 (row c.before.before.before) (pairs c.before.before.before) (most c.before.before.before) c.if-not-row.false,
+      walks-on (test_at (goal.at.loop-j-preserved c).At-loop-j) (otherwise g.slot g.n) 12 c.loop-j.invariant.1
+      (row at_in_order_row) (pairs at_in_order_row) (most at_in_order_row) c.if-not-row.false,
     )
 
 pub returns-clause-passed_value : goal.returns-clause-passed_value
 unfolding check26 pairs26
 returns-clause-passed_value c =
     let g = c.args in
-    (walk_ends (test_at c.before) (otherwise g.slot g.n) 12 c.loop-j.invariant.1 (let e : c.loop-j.j ≡ g.n = omega arith in e)).0
+    (walk_ends (test_at (goal.at.returns-clause-passed_value c).At-loop-j) (otherwise g.slot g.n) 12 c.loop-j.invariant.1
+    (let e : c.loop-j.j ≡ g.n = omega arith in e)).0
 
 pub returns-clause-pairs_value : goal.returns-clause-pairs_value
 unfolding check26 pairs26
 returns-clause-pairs_value c =
     let g = c.args in
-    (walk_ends (test_at c.before) (otherwise g.slot g.n) 12 c.loop-j.invariant.1 (let e : c.loop-j.j ≡ g.n = omega arith in e)).1
+    (walk_ends (test_at (goal.at.returns-clause-pairs_value c).At-loop-j) (otherwise g.slot g.n) 12 c.loop-j.invariant.1
+    (let e : c.loop-j.j ≡ g.n = omega arith in e)).1

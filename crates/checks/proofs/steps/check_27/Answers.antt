@@ -31,7 +31,7 @@ abbrev test_at : At-loop-j → ℕ → Bool
 test_at c = let g = c.args in test g.member g.slot g.accepted g.newest
 
 entry : (c : After-not_above-count) →
-    c.not_above-count.result.passed ≡ test_at c.before.before.before.before.before (c.loop-j.j + 1)
+    c.not_above-count.result.passed ≡ test_at (goal.at.After-not_above-count c).At-loop-j (c.loop-j.j + 1)
 entry c =
     let g = c.args in
     tested g.member g.slot g.accepted g.newest c.loop-j.j (omega arith) (omega arith) (omega arith) c.not_above-count.ensures.passed_value
@@ -47,31 +47,41 @@ pub returns-then-not-count-clause-passed_value : goal.returns-then-not-count-cla
 unfolding check27 pairs27
 returns-then-not-count-clause-passed_value c =
     let g = c.args in
-    (walk-stops (test_at c.before.before.before.before.before.before.before.before) (otherwise g.slot 1) 1 c.loop-j.invariant.1 (entry c.before.before.before) c.not_above-count.ensures.pairs_value g.n (omega arith)
+    (walk-stops (test_at (goal.at.returns-then-not-count-clause-passed_value c).At-loop-j)
+    (otherwise g.slot 1) 1 c.loop-j.invariant.1
+    (entry (goal.at.returns-then-not-count-clause-passed_value c).After-not_above-count) c.not_above-count.ensures.pairs_value g.n
+    (omega arith)
     c.if-not-count.true).0
 
 pub returns-then-not-count-clause-pairs_value : goal.returns-then-not-count-clause-pairs_value
 unfolding check27 pairs27
 returns-then-not-count-clause-pairs_value c =
     let g = c.args in
-    (walk-stops (test_at c.before.before.before.before.before.before.before.before) (otherwise g.slot 1) 1 c.loop-j.invariant.1 (entry c.before.before.before) c.not_above-count.ensures.pairs_value g.n (omega arith)
+    (walk-stops (test_at (goal.at.returns-then-not-count-clause-pairs_value c).At-loop-j)
+    (otherwise g.slot 1) 1 c.loop-j.invariant.1
+    (entry (goal.at.returns-then-not-count-clause-pairs_value c).After-not_above-count) c.not_above-count.ensures.pairs_value g.n
+    (omega arith)
     c.if-not-count.true).1
 
 pub loop-j-preserved : goal.loop-j-preserved
 loop-j-preserved c =
+    let at_not_above_count = (goal.at.loop-j-preserved c).After-not_above-count in
     let g = c.args in (
       search rules,
-      walks-on (test_at c.before.before.before.before.before.before.before.before) (otherwise g.slot 1) 1 c.loop-j.invariant.1 (entry c.before.before.before) c.not_above-count.ensures.pairs_value (most c.before.before.before) c.if-not-count.false,
+      walks-on (test_at (goal.at.loop-j-preserved c).At-loop-j) (otherwise g.slot 1) 1 c.loop-j.invariant.1
+      (entry at_not_above_count) c.not_above-count.ensures.pairs_value (most at_not_above_count) c.if-not-count.false,
     )
 
 pub returns-clause-passed_value : goal.returns-clause-passed_value
 unfolding check27 pairs27
 returns-clause-passed_value c =
     let g = c.args in
-    (walk_ends (test_at c.before) (otherwise g.slot 1) 1 c.loop-j.invariant.1 (let e : c.loop-j.j ≡ g.n = omega arith in e)).0
+    (walk_ends (test_at (goal.at.returns-clause-passed_value c).At-loop-j) (otherwise g.slot 1) 1 c.loop-j.invariant.1
+    (let e : c.loop-j.j ≡ g.n = omega arith in e)).0
 
 pub returns-clause-pairs_value : goal.returns-clause-pairs_value
 unfolding check27 pairs27
 returns-clause-pairs_value c =
     let g = c.args in
-    (walk_ends (test_at c.before) (otherwise g.slot 1) 1 c.loop-j.invariant.1 (let e : c.loop-j.j ≡ g.n = omega arith in e)).1
+    (walk_ends (test_at (goal.at.returns-clause-pairs_value c).At-loop-j) (otherwise g.slot 1) 1 c.loop-j.invariant.1
+    (let e : c.loop-j.j ≡ g.n = omega arith in e)).1

@@ -30,7 +30,8 @@ few26 c =
 few27 : (c : After-check_27-entries) → c.check_27-entries.result.pairs ≤ 12
 few27 c =
     let a = c.args in
-    omega (arith, c.check_27-entries.ensures.pairs_value, most27 a.n a.member a.slot c.requires.1.1 (row_in a.accepted) (matrix_in a.newest))
+    omega (arith, c.check_27-entries.ensures.pairs_value, most27 a.n a.member a.slot c.requires.1.1 (row_in a.accepted)
+    (matrix_in a.newest))
 
 -- Each that passed.
 
@@ -39,7 +40,8 @@ unfolding if_made
 returns-then-not-below-clause-pairs_value c = omega (arith, c.check_25-below.ensures.pairs_value)
 
 pub overflow_add-pairs : goal.overflow_add-pairs
-overflow_add-pairs c = omega (arith, few25 c.before.before.before.before, few26 c.before)
+overflow_add-pairs c = omega
+    (arith, few25 (goal.at.overflow_add-pairs c).After-check_25-below, few26 (goal.at.overflow_add-pairs c).After-check_26-rows)
 
 pub returns-then-not-rows-clause-pairs_value : goal.returns-then-not-rows-clause-pairs_value
 unfolding if_made
@@ -47,12 +49,15 @@ returns-then-not-rows-clause-pairs_value c = omega (arith, c.check_25-below.ensu
 
 pub overflow_add-pairs-2 : goal.overflow_add-pairs-2
 overflow_add-pairs-2 c =
-    omega (arith, few25 c.before.before.before.before.before.before.before.before, few26 c.before.before.before.before.before, few27 c.before)
+    omega (arith, few25 (goal.at.overflow_add-pairs-2 c).After-check_25-below,
+    few26 (goal.at.overflow_add-pairs-2 c).After-check_26-rows, few27 (goal.at.overflow_add-pairs-2 c).After-check_27-entries)
 
 pub returns-then-not-entries-clause-pairs_value : goal.returns-then-not-entries-clause-pairs_value
 unfolding if_made
-returns-then-not-entries-clause-pairs_value c = omega (arith, c.check_25-below.ensures.pairs_value, c.check_26-rows.ensures.pairs_value, c.check_27-entries.ensures.pairs_value)
+returns-then-not-entries-clause-pairs_value c = omega
+    (arith, c.check_25-below.ensures.pairs_value, c.check_26-rows.ensures.pairs_value, c.check_27-entries.ensures.pairs_value)
 
 pub returns-clause-pairs_value : goal.returns-clause-pairs_value
 unfolding if_made
-returns-clause-pairs_value c = omega (arith, c.check_25-below.ensures.pairs_value, c.check_26-rows.ensures.pairs_value, c.check_27-entries.ensures.pairs_value)
+returns-clause-pairs_value c = omega
+    (arith, c.check_25-below.ensures.pairs_value, c.check_26-rows.ensures.pairs_value, c.check_27-entries.ensures.pairs_value)

@@ -19,7 +19,7 @@ returns-then-not-row-clause-pairs_value c = omega (arith, c.check_22-row.ensures
 
 pub overflow_add-pairs : goal.overflow_add-pairs
 unfolding pairs23
-overflow_add-pairs c = omega (arith, few c.before.before.before.before, c.check_23-own.ensures.pairs_value)
+overflow_add-pairs c = omega (arith, few (goal.at.overflow_add-pairs c).After-check_22-row, c.check_23-own.ensures.pairs_value)
 
 pub returns-then-not-own-clause-pairs_value : goal.returns-then-not-own-clause-pairs_value
 unfolding if_made pairs23

@@ -32,7 +32,7 @@ copy_down-requires c =
     let p = c.newest_at-at.ensures in
     let q = c.record_size.ensures in
     let long = c.requires.long in
-    (omega arith, omega (arith, same c.before.before.before.before.before.before))
+    (omega arith, omega (arith, same (goal.at.copy_down-requires c).After-store_record))
 
 pub returns-then-becomes_stored-clause-after : goal.returns-then-becomes_stored-clause-after
 returns-then-becomes_stored-clause-after c =

@@ -8,19 +8,14 @@ use Rattle.model.specs.Table.{host_of, stored_records_of}
 use Rattle.records.specs.Meaning.{record_in}
 use Rattle.host.proofs.Lent.{Lent, entry_lent, host-changed, lent, stored-changed, stored_lent}
 use Rattle.host.proofs.steps.commit.Goals as goal
-use Rattle.host.proofs.steps.commit.Lts as lts
-use Rattle.host.proofs.steps.commit.Reads as reads
-use Rattle.host.proofs.steps.commit.Tie as tie
+use Rattle.host.proofs.steps.commit.Goals.{After-entry_size}
 
-abbrev At-After-entry_size : Type 0
-At-After-entry_size = lts.After-entry_size tie.the-claims reads.Pre reads.Post tie.handed_clauses
-
-entry : (c : At-After-entry_size) → Lent c.args.n c.args.committed.slot c.args.entries.now c.entry_place-at.result c.entry_size.result
+entry : (c : After-entry_size) → Lent c.args.n c.args.committed.slot c.args.entries.now c.entry_place-at.result c.entry_size.result
 entry c = lent c.requires c.entry_place-at.ensures c.entry_size.ensures
 
 pub returns-clause-value : goal.returns-clause-value
 returns-clause-value c =
-    let h = entry c.before.before.before.before.before in
+    let h = entry (goal.at.returns-clause-value c).After-entry_size in
     let a = c.args in
     let r = record_in a.committed in
     let post = c.commit_entry.ensures in
@@ -28,7 +23,7 @@ returns-clause-value c =
 
 pub returns-clause-entries_after : goal.returns-clause-entries_after
 returns-clause-entries_after c =
-    let h = entry c.before.before.before.before.before in
+    let h = entry (goal.at.returns-clause-entries_after c).After-entry_size in
     let a = c.args in
     let slot = a.committed.slot in
     let r = record_in a.committed in
@@ -40,7 +35,7 @@ returns-clause-entries_after c =
 
 pub returns-clause-entries_after_2 : goal.returns-clause-entries_after_2
 returns-clause-entries_after_2 c =
-    let h = entry c.before.before.before.before.before in
+    let h = entry (goal.at.returns-clause-entries_after_2 c).After-entry_size in
     let a = c.args in
     let slot = a.committed.slot in
     let r = record_in a.committed in

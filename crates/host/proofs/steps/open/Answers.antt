@@ -19,7 +19,8 @@ use Rattle.host.proofs.steps.open.Goals.{After-entry_place-at}
 slot : {n i : ℕ} {l : List ℕ} → n ≤ 12 → length l ≡ host_size n → i < n → Slot n (i + 1) l
 slot most long p = record { most = most; long = long; slot_least = omega arith; slot_most = omega arith }
 
-entry : (c : After-entry_place-at) → Lent c.args.n (c.loop-done.done + 1) c.loop-done.entries c.entry_place-at.result c.entry_size-size.result
+entry : (c : After-entry_place-at) → Lent c.args.n (c.loop-done.done + 1) c.loop-done.entries c.entry_place-at.result
+    c.entry_size-size.result
 entry c =
     lent (slot c.requires.most c.loop-done.invariant.1.0 c.loop-done-test.true) c.entry_place-at.ensures
     c.entry_size-size.ensures
@@ -28,7 +29,7 @@ pub loop-done-preserved : goal.loop-done-preserved
 loop-done-preserved c =
     let n = c.args.n in
     let l = c.loop-done in
-    let h = entry c.before.before.before.before.before in
+    let h = entry (goal.at.loop-done-preserved c).After-entry_place-at in
     let p = c.open_entry.new.entry in
     let k = c.open_entry.auto.entry in
     let post = c.open_entry.ensures in

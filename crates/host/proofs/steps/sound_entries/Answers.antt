@@ -10,15 +10,7 @@ use Rattle.laws.proofs.Tests.{ends, goes_on, stops}
 use Rattle.host.specs.Needs.{Entries, Slot}
 use Rattle.host.proofs.Lent.{Lent, lent, sound_lent, sound_slot}
 use Rattle.host.proofs.steps.sound_entries.Goals as goal
-use Rattle.host.proofs.steps.sound_entries.Lts as lts
-use Rattle.host.proofs.steps.sound_entries.Reads as reads
-use Rattle.host.proofs.steps.sound_entries.Tie as tie
-
-abbrev At-After-entry_place-at : Type 0
-At-After-entry_place-at = lts.After-entry_place tie.the-claims reads.Pre reads.Post goal.the-invariant-loop-passed goal.the-decreases-loop-passed
-
-abbrev At-After-sound_entry : Type 0
-At-After-sound_entry = lts.After-sound_entry tie.the-claims reads.Pre reads.Post goal.the-invariant-loop-passed goal.the-decreases-loop-passed
+use Rattle.host.proofs.steps.sound_entries.Goals.{After-entry_place-at, After-sound_entry}
 
 slot : {n i : ℕ} {l : List ℕ} → Entries n l → i < n → Slot n (i + 1) l
 slot h p = record { most = h.most; long = h.long; slot_least = omega arith; slot_most = omega arith }
@@ -26,22 +18,24 @@ slot h p = record { most = h.most; long = h.long; slot_least = omega arith; slot
 pub loop-passed-init : goal.loop-passed-init
 loop-passed-init c = (search rules, each_none _)
 
-entry : (c : At-After-entry_place-at) → let a = c.args in
+entry : (c : After-entry_place-at) → let a = c.args in
     Lent a.n (c.loop-passed.passed + 1) a.entries.now c.entry_place-at.result c.entry_size-size.result
 entry c =
     lent (slot c.requires c.loop-passed-test.true) c.entry_place-at.ensures c.entry_size-size.ensures
 
-judged : (c : At-After-sound_entry) → let a = c.args in
+judged : (c : After-sound_entry) → let a = c.args in
     c.sound_entry.result ≡ sound_slot a.n a.entries.now (c.loop-passed.passed + 1)
-judged c = c.sound_entry.ensures ∙ sound_lent (entry c.before.before)
+judged c = c.sound_entry.ensures ∙ sound_lent (entry (goal.at.After-sound_entry c).After-entry_place-at)
 
 pub returns-then-not-sound_entry : goal.returns-then-not-sound_entry
 unfolding sound_host
-returns-then-not-sound_entry c = stops _ _ _ c.loop-passed-test.true (judged c.before.before) c.if-not-sound_entry.true-raw
+returns-then-not-sound_entry c = stops _ _ _ c.loop-passed-test.true
+    (judged (goal.at.returns-then-not-sound_entry c).After-sound_entry) c.if-not-sound_entry.true-raw
 
 pub loop-passed-preserved : goal.loop-passed-preserved
 loop-passed-preserved c =
-    (search rules, goes_on c.args.n _ _ c.loop-passed.invariant.1 (judged c.before.before) c.if-not-sound_entry.false-raw)
+    (search rules, goes_on c.args.n _ _ c.loop-passed.invariant.1
+    (judged (goal.at.loop-passed-preserved c).After-sound_entry) c.if-not-sound_entry.false-raw)
 
 pub returns : goal.returns
 unfolding sound_host

@@ -7,31 +7,26 @@ use Rattle.model.specs.Host.{submitted}
 use Rattle.model.specs.Table.{host_of, stored_records_of}
 use Rattle.host.proofs.Lent.{Lent, entry_lent, host-changed, lent, stored-changed, stored_lent}
 use Rattle.host.proofs.steps.submit.Goals as goal
-use Rattle.host.proofs.steps.submit.Lts as lts
-use Rattle.host.proofs.steps.submit.Reads as reads
-use Rattle.host.proofs.steps.submit.Tie as tie
+use Rattle.host.proofs.steps.submit.Goals.{After-entry_size}
 
-abbrev At-After-entry_size : Type 0
-At-After-entry_size = lts.After-entry_size tie.the-claims reads.Pre reads.Post tie.handed_clauses
-
-entry : (c : At-After-entry_size) → Lent c.args.n c.args.slot c.args.entries.now c.entry_place-at.result c.entry_size.result
+entry : (c : After-entry_size) → Lent c.args.n c.args.slot c.args.entries.now c.entry_place-at.result c.entry_size.result
 entry c = lent c.requires c.entry_place-at.ensures c.entry_size.ensures
 
 pub returns-clause-newest_after : goal.returns-clause-newest_after
 returns-clause-newest_after c =
-    let h = entry c.before.before.before.before.before in
+    let h = entry (goal.at.returns-clause-newest_after c).After-entry_size in
     let post = c.submit_entry.ensures in
     post.newest_after ∙ ap (λ e. e.newest) (entry_lent h)
 
 pub returns-clause-stored_value : goal.returns-clause-stored_value
 returns-clause-stored_value c =
-    let h = entry c.before.before.before.before.before in
+    let h = entry (goal.at.returns-clause-stored_value c).After-entry_size in
     let post = c.submit_entry.ensures in
     post.stored_value ∙ stored_lent h
 
 pub returns-clause-entries_after : goal.returns-clause-entries_after
 returns-clause-entries_after c =
-    let h = entry c.before.before.before.before.before in
+    let h = entry (goal.at.returns-clause-entries_after c).After-entry_size in
     let a = c.args in
     let p = c.submit_entry.new.entry in
     let k = c.submit_entry.auto.entry in
@@ -41,7 +36,7 @@ returns-clause-entries_after c =
 
 pub returns-clause-entries_unchanged : goal.returns-clause-entries_unchanged
 returns-clause-entries_unchanged c =
-    let h = entry c.before.before.before.before.before in
+    let h = entry (goal.at.returns-clause-entries_unchanged c).After-entry_size in
     let a = c.args in
     let stored = stored_records_of a.n (words a.entries.now) in
     let p = c.submit_entry.new.entry in

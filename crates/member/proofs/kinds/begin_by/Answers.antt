@@ -27,5 +27,6 @@ pub returns-clause-block_after : goal.returns-clause-block_after
 unfolding member_begin_words
 returns-clause-block_after c =
     let before = c.args.block.now in
-    let long = c.begin.auto.block ∙ (ready c.before.before.before.before.before).block.long in
-    λ kind limit most. words_made _ before _ _ (taken c.before.before.before.before.before kind limit most) long c.begin.ensures
+    let long = c.begin.auto.block ∙ (ready (goal.at.returns-clause-block_after c).Else-number-ne0).block.long in
+    λ kind limit most. words_made _ before _ _
+    (taken (goal.at.returns-clause-block_after c).After-begin_number-number kind limit most) long c.begin.ensures

@@ -9,22 +9,14 @@ use Rattle.model.specs.Table.{block_number}
 use Rattle.laws.proofs.Tests.{allowed, refused}
 use Rattle.member_block.specs.Needs.{Block}
 use Rattle.member.proofs.numbers.lent_number.Goals as goal
-use Rattle.member.proofs.numbers.lent_number.Lts as lts
-use Rattle.member.proofs.numbers.lent_number.Reads as reads
-use Rattle.member.proofs.numbers.lent_number.Tie as tie
+use Rattle.member.proofs.numbers.lent_number.Goals.{Else-block-size, Else-not-is_numbered}
 
-abbrev At-Else-block-size : Type 0
-At-Else-block-size = lts.Else2 tie.the-claims reads.Pre reads.Post
-
-abbrev At-Else-not-is_numbered : Type 0
-At-Else-not-is_numbered = lts.Else1 tie.the-claims reads.Pre reads.Post
-
-size : (c : At-Else-not-is_numbered) → inside 12 c.args.n ≡ true
+size : (c : Else-not-is_numbered) → inside 12 c.args.n ≡ true
 size c = allowed c.is_numbered.ensures c.if-not-is_numbered.false-raw
 
-whole : (c : At-Else-block-size) → Block c.args.n c.args.block.now
+whole : (c : Else-block-size) → Block c.args.n c.args.block.now
 whole c =
-    let p = size c.before.before in
+    let p = size (goal.at.Else-block-size c).Else-not-is_numbered in
     record { least = inside_low 12 _ p; most = inside_high 12 _ p; long = c.if-block-size.false ∙ c.block_size-size.ensures }
 
 pub returns-then-not-is_numbered : goal.returns-then-not-is_numbered
@@ -32,21 +24,26 @@ unfolding lent_number
 returns-then-not-is_numbered c = rw (refused c.is_numbered.ensures c.if-not-is_numbered.true-raw)
 
 pub block_size-size-requires : goal.block_size-size-requires
-block_size-size-requires c = inside_high 12 _ (size c.before)
+block_size-size-requires c = inside_high 12 _ (size c)
 
 pub returns-then-block-size : goal.returns-then-block-size
 unfolding lent_number block_number
-returns-then-block-size c = rw (size c.before.before.before, ne_eqb _ _ (λ e. c.if-block-size.true (e ∙ sym c.block_size-size.ensures)))
+returns-then-block-size c = rw
+    (size (goal.at.returns-then-block-size c).Else-not-is_numbered,
+    ne_eqb _ _ (λ e. c.if-block-size.true (e ∙ sym c.block_size-size.ensures)))
 
 pub sound_block-requires : goal.sound_block-requires
-sound_block-requires c = whole c.before
+sound_block-requires c = whole c
 
 pub returns-then-not-sound_block : goal.returns-then-not-sound_block
 unfolding lent_number block_number
 returns-then-not-sound_block c =
-    rw (size c.before.before.before.before.before, eq-eqb _ _ (whole c.before.before.before).long, refused c.sound_block.ensures c.if-not-sound_block.true-raw)
+    rw (size (goal.at.returns-then-not-sound_block c).Else-not-is_numbered,
+    eq-eqb _ _ (whole (goal.at.returns-then-not-sound_block c).Else-block-size).long,
+    refused c.sound_block.ensures c.if-not-sound_block.true-raw)
 
 pub returns : goal.returns
 unfolding lent_number block_number
 returns c =
-    rw (size c.before.before.before.before.before, eq-eqb _ _ (whole c.before.before.before).long, allowed c.sound_block.ensures c.if-not-sound_block.false-raw)
+    rw (size (goal.at.returns c).Else-not-is_numbered, eq-eqb _ _ (whole (goal.at.returns c).Else-block-size).long,
+    allowed c.sound_block.ensures c.if-not-sound_block.false-raw)

@@ -10,21 +10,16 @@ use Rattle.model.specs.Table.{member_of}
 use Rattle.member.proofs.Refusals.{good}
 use Rattle.member_block.proofs.Sizes.{head_room}
 use Rattle.member.proofs.numbers.waiting_number.Goals as goal
-use Rattle.member.proofs.numbers.waiting_number.Lts as lts
-use Rattle.member.proofs.numbers.waiting_number.Reads as reads
-use Rattle.member.proofs.numbers.waiting_number.Tie as tie
+use Rattle.member.proofs.numbers.waiting_number.Goals.{Else-number-ne0}
 
-abbrev At-Else-number-ne0 : Type 0
-At-Else-number-ne0 = lts.Else1 tie.the-claims reads.Pre reads.Post
-
-room : (c : At-Else-number-ne0) → 5 ≤ length c.args.block.now
+room : (c : Else-number-ne0) → 5 ≤ length c.args.block.now
 room c =
     let a = c.args in
     let g = good a.n a.member a.block.now (sym c.member_number-number.ensures ∙ c.if-number-ne0.false) in
     omega (arith, head_room a.n, g.block.long)
 
 pub bounds-block-0 : goal.bounds-block-0
-bounds-block-0 c = omega (arith, room c.before.before)
+bounds-block-0 c = omega (arith, room (goal.at.bounds-block-0 c).Else-number-ne0)
 
 pub returns-then-block-phase : goal.returns-then-block-phase
 unfolding member_of not_waiting
@@ -32,14 +27,16 @@ returns-then-block-phase c =
     number_passes c.member_number-number.ensures c.if-number-ne0.false (rw (ne_eqb _ _ c.if-block-phase.true))
 
 pub bounds-block-1 : goal.bounds-block-1
-bounds-block-1 c = omega (arith, room c.before.before.before.before)
+bounds-block-1 c = omega (arith, room (goal.at.bounds-block-1 c).Else-number-ne0)
 
 pub returns-then-block-ne0 : goal.returns-then-block-ne0
 unfolding member_of not_waiting
 returns-then-block-ne0 c =
-    number_passes c.member_number-number.ensures c.if-number-ne0.false (rw (eq-eqb _ _ c.if-block-phase.false, ne_eqb _ 0 c.if-block-ne0.true))
+    number_passes c.member_number-number.ensures c.if-number-ne0.false
+    (rw (eq-eqb _ _ c.if-block-phase.false, ne_eqb _ 0 c.if-block-ne0.true))
 
 pub returns : goal.returns
 unfolding member_of not_waiting
 returns c =
-    number_passes c.member_number-number.ensures c.if-number-ne0.false (rw (eq-eqb _ _ c.if-block-phase.false, eq-eqb _ 0 c.if-block-ne0.false))
+    number_passes c.member_number-number.ensures c.if-number-ne0.false
+    (rw (eq-eqb _ _ c.if-block-phase.false, eq-eqb _ 0 c.if-block-ne0.false))

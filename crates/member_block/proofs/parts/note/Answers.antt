@@ -25,7 +25,7 @@ store_record-requires-2 c = (search rules, omega (arith, c.store_record.auto.t))
 
 pub bounds-block-0 : goal.bounds-block-0
 unfolding block_size second_at first_at known_at pending_at last_at accepted_at
-bounds-block-0 c = omega (arith, kept c.before.before)
+bounds-block-0 c = omega (arith, kept (goal.at.bounds-block-0 c).After-store_record-2)
 
 pub returns : goal.returns
 unfolding block_size second_at first_at known_at pending_at last_at accepted_at

@@ -59,15 +59,15 @@ copy_down-requires c = (omega arith, simp length-set (omega arith))
 pub returns-then-operation-ne-WRITE : goal.returns-then-operation-ne-WRITE
 unfolding member_of
 returns-then-operation-ne-WRITE c =
-    ap (member_of c.args.n) (copied c.before.before.before.before).same
+    ap (member_of c.args.n) (copied (goal.at.returns-then-operation-ne-WRITE c).After-copy_down).same
     ∙ tookOver-read c.args.n (words c.args.block.now) c.requires.slot.least c.requires.slot.most (ne_eqb _ 2 c.if-operation-ne-WRITE.true)
 
 pub copy_down-requires-2 : goal.copy_down-requires-2
 unfolding block_size second_at first_at known_at pending_at last_at accepted_at record_size member_of
-copy_down-requires-2 c = (omega arith, omega (arith, same c.before.before.before.before))
+copy_down-requires-2 c = (omega arith, omega (arith, same (goal.at.copy_down-requires-2 c).After-copy_down))
 
 pub returns : goal.returns
 unfolding member_of
 returns c =
-    ap (member_of c.args.n) (last_held (copied c.before.before.before.before.before.before.before.before) c.layout-at.ensures _ c.copy_down-2.ensures).same
+    ap (member_of c.args.n) (last_held (copied (goal.at.returns c).After-copy_down) c.layout-at.ensures _ c.copy_down-2.ensures).same
     ∙ tookOver-write c.args.n (words c.args.block.now) c.requires.slot.least c.requires.slot.most (eq-eqb _ 2 c.if-operation-ne-WRITE.false)

@@ -56,15 +56,15 @@ store_value-requires c = simp length-set (omega arith)
 
 pub bounds-block-0 : goal.bounds-block-0
 unfolding block_size second_at first_at known_at pending_at last_at accepted_at
-bounds-block-0 c = omega (arith, long c.before.before)
+bounds-block-0 c = omega (arith, long (goal.at.bounds-block-0 c).After-store_value)
 
 pub bounds-block-3 : goal.bounds-block-3
 unfolding block_size second_at first_at known_at pending_at last_at accepted_at
-bounds-block-3 c = simp length-set (omega (arith, long c.before.before))
+bounds-block-3 c = simp length-set (omega (arith, long (goal.at.bounds-block-3 c).After-store_value))
 
 pub bounds-block-4 : goal.bounds-block-4
 unfolding block_size second_at first_at known_at pending_at last_at accepted_at
-bounds-block-4 c = simp length-set (omega (arith, long c.before.before))
+bounds-block-4 c = simp length-set (omega (arith, long (goal.at.bounds-block-4 c).After-store_value))
 
 pub returns : goal.returns
 unfolding block_size second_at first_at known_at pending_at last_at accepted_at
@@ -81,4 +81,4 @@ returns c =
     ap (member_of a.n) e.same
     ∙ rw at.ensures.pending
     (begun_by a.n w a.slot a.operation (value_of (words a.value)) value c.requires.slot.least c.requires.slot.most
-    (carried_value c.before.before.before.before.before))
+    (carried_value (goal.at.returns c).After-carried-pending))

@@ -9,12 +9,7 @@ use Rattle.model.specs.Table.{member_of}
 use Rattle.member_block.proofs.Sizes.{head_room}
 use Rattle.member_block.proofs.Begins.{begins}
 use Rattle.member_block.proofs.steps.begin_answer_on.Goals as goal
-use Rattle.member_block.proofs.steps.begin_answer_on.Lts as lts
-use Rattle.member_block.proofs.steps.begin_answer_on.Reads as reads
-use Rattle.member_block.proofs.steps.begin_answer_on.Tie as tie
-
-abbrev At-After-begin_answer : Type 0
-At-After-begin_answer = lts.After-begin_answer tie.the-claims reads.Pre reads.Post tie.handed_clauses
+use Rattle.member_block.proofs.steps.begin_answer_on.Goals.{After-begin_answer}
 
 pub bounds-block-0 : goal.bounds-block-0
 bounds-block-0 c = omega (arith, head_room c.args.n)
@@ -22,7 +17,7 @@ bounds-block-0 c = omega (arith, head_room c.args.n)
 pub bounds-block-1 : goal.bounds-block-1
 bounds-block-1 c = omega (arith, head_room c.args.n)
 
-answered : (c : At-After-begin_answer) (kind : Kind)
+answered : (c : After-begin_answer) (kind : Kind)
     → let a = c.args in
     let m = member_of a.n (words a.block.now) in
     a.limit ≡ kind.limit
@@ -36,11 +31,12 @@ answered c kind same =
     c.own_count-count.ensures
 
 -- a kind that has the limit
-abbrev limited : At-After-begin_answer → Kind
+abbrev limited : After-begin_answer → Kind
 limited c = record { limit = c.args.limit; most = 0; sized = omega arith }
 
 pub returns-clause-fact : goal.returns-clause-fact
-returns-clause-fact c = answered c.before
+returns-clause-fact c = answered (goal.at.returns-clause-fact c).After-shared_slice_known-3-1
 
 pub returns-clause-begins : goal.returns-clause-begins
-returns-clause-begins c = λ z. begins (limited c.before) c.ranges.limit.fits _ _ _ _ _ c.requires (sym (answered c.before (limited c.before) refl) ∙ z)
+returns-clause-begins c = λ z. begins (limited c) c.ranges.limit.fits _ _ _ _ _ c.requires
+    (sym (answered (goal.at.returns-clause-begins c).After-shared_slice_known-3-1 (limited c) refl) ∙ z)

@@ -7,14 +7,9 @@ use Rattle.laws.proofs.Tables.{block_small}
 use Rattle.member_block.proofs.Laws.{sent_built}
 use Rattle.member_block.proofs.Sizes.{first_room, head_room, own_room, running_slot}
 use Rattle.member_block.proofs.steps.commit_of.Goals as goal
-use Rattle.member_block.proofs.steps.commit_of.Lts as lts
-use Rattle.member_block.proofs.steps.commit_of.Reads as reads
-use Rattle.member_block.proofs.steps.commit_of.Tie as tie
+use Rattle.member_block.proofs.steps.commit_of.Goals.{After-layout-at}
 
-abbrev At-After-layout-at : Type 0
-At-After-layout-at = lts.After-layout tie.the-claims reads.Pre reads.Post
-
-room : (c : At-After-layout-at) → let n = c.args.n in first_at n + record_size n ≤ 501
+room : (c : After-layout-at) → let n = c.args.n in first_at n + record_size n ≤ 501
 room c = let n = c.args.n in omega (arith, first_room n, block_small n c.requires.block.most)
 
 pub bounds-block-3 : goal.bounds-block-3
@@ -22,7 +17,7 @@ bounds-block-3 c = omega (arith, head_room c.args.n)
 
 pub overflow_add-at : goal.overflow_add-at
 unfolding record_size
-overflow_add-at c = record { fits = omega (arith, room c.before.before.before) }
+overflow_add-at c = record { fits = omega (arith, room (goal.at.overflow_add-at c).After-layout-at) }
 
 pub load_value-value-requires : goal.load_value-value-requires
 unfolding record_size
@@ -30,7 +25,7 @@ load_value-value-requires c = omega (arith, first_room c.args.n)
 
 pub overflow_add-at-2 : goal.overflow_add-at-2
 unfolding record_size
-overflow_add-at-2 c = record { fits = omega (arith, room c.before.before.before.before.before) }
+overflow_add-at-2 c = record { fits = omega (arith, room (goal.at.overflow_add-at-2 c).After-layout-at) }
 
 pub load_matrix-matrix-requires : goal.load_matrix-matrix-requires
 unfolding record_size

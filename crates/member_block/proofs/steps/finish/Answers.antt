@@ -12,29 +12,24 @@ use Rattle.laws.proofs.Blocks.{block_sum}
 use Rattle.laws.proofs.Tables.{block_small}
 use Rattle.member_block.proofs.Laws.{second_value, none_taken, value_taken, completed_by}
 use Rattle.member_block.proofs.steps.finish.Goals as goal
-use Rattle.member_block.proofs.steps.finish.Goals.{After-drop-2, After-load_value-value}
-use Rattle.member_block.proofs.steps.finish.Lts as lts
-use Rattle.member_block.proofs.steps.finish.Reads as reads
-use Rattle.member_block.proofs.steps.finish.Tie as tie
-
-abbrev At-Else-not-accepted : Type 0
-At-Else-not-accepted = lts.Else1 tie.the-claims reads.Pre reads.Post tie.handed_clauses
+use Rattle.member_block.proofs.steps.finish.Goals.{After-drop-2, After-load_value-value, Else-not-accepted}
 
 -- What is known at each place of an accepted outcome, built on the place before.
 
-abbrev was : At-Else-not-accepted → Member
+abbrev was : Else-not-accepted → Member
 was c = member_in c.args.n c.args.block.now
 
-accepted : (c : At-Else-not-accepted) → c.args.accepted ≡ true
+accepted : (c : Else-not-accepted) → c.args.accepted ≡ true
 accepted c = not-false _ c.if-not-accepted.false-raw
 
-value : (c : After-load_value-value) → value_of (words c.load_value-value.result) ≡ (was c.before.before.before).second.value
+value : (c : After-load_value-value) → value_of (words c.load_value-value.result) ≡
+    (was (goal.at.After-load_value-value c).Else-not-accepted).second.value
 value c =
     let a = c.args in
     (rw c.layout-at.ensures.second at c.load_value-value.ensures) ∙ second_value a.n (words a.block.now)
 
-left : (c : After-drop-2) → member_in c.args.n c.drop-2.new.block ≡ completed (was c.before.before.before.before.before.before.before.before.before.before)
-left c = c.drop-2.ensures ∙ ap dropped c.take_over.ensures ∙ sym (completed_by (was c.before.before.before.before.before.before.before.before.before.before))
+left : (c : After-drop-2) → member_in c.args.n c.drop-2.new.block ≡ completed (was (goal.at.After-drop-2 c).Else-not-accepted)
+left c = c.drop-2.ensures ∙ ap dropped c.take_over.ensures ∙ sym (completed_by (was (goal.at.After-drop-2 c).Else-not-accepted))
 
 -- The needs.
 
@@ -64,16 +59,25 @@ bounds-block-4 c = omega (arith, block_sum c.args.n)
 
 pub returns-then-operation-eq-READ-clause-taken : goal.returns-then-operation-eq-READ-clause-taken
 unfolding outcome member_of
-returns-then-operation-eq-READ-clause-taken c = rw (accepted c.before.before.before.before.before.before.before.before.before.before.before.before.before.before) (value_taken (was c.before.before.before.before.before.before.before.before.before.before.before.before.before.before) _ (eq-eqb _ 1 c.if-operation-eq-READ.true) (value c.before.before.before.before.before.before.before.before.before.before.before))
+returns-then-operation-eq-READ-clause-taken c =
+    let else_not_accepted = (goal.at.returns-then-operation-eq-READ-clause-taken c).Else-not-accepted in
+    rw (accepted else_not_accepted)
+    (value_taken (was else_not_accepted) _ (eq-eqb _ 1 c.if-operation-eq-READ.true)
+    (value (goal.at.returns-then-operation-eq-READ-clause-taken c).After-load_value-value))
 
 pub returns-then-operation-eq-READ-clause-block_after : goal.returns-then-operation-eq-READ-clause-block_after
 unfolding outcome member_of
-returns-then-operation-eq-READ-clause-block_after c = rw (accepted c.before.before.before.before.before.before.before.before.before.before.before.before.before.before) (left c.before.before.before.before)
+returns-then-operation-eq-READ-clause-block_after c = rw
+    (accepted (goal.at.returns-then-operation-eq-READ-clause-block_after c).Else-not-accepted)
+    (left (goal.at.returns-then-operation-eq-READ-clause-block_after c).After-drop-2)
 
 pub returns-clause-taken : goal.returns-clause-taken
 unfolding outcome member_of
-returns-clause-taken c = rw (accepted c.before.before.before.before.before.before.before.before.before.before.before.before.before.before.before) (none_taken (was c.before.before.before.before.before.before.before.before.before.before.before.before.before.before.before) true (ne_eqb _ 1 c.if-operation-eq-READ.false) c.nothing-2.ensures)
+returns-clause-taken c =
+    let else_not_accepted = (goal.at.returns-clause-taken c).Else-not-accepted in
+    rw (accepted else_not_accepted) (none_taken (was else_not_accepted) true (ne_eqb _ 1 c.if-operation-eq-READ.false) c.nothing-2.ensures)
 
 pub returns-clause-block_after : goal.returns-clause-block_after
 unfolding outcome member_of
-returns-clause-block_after c = rw (accepted c.before.before.before.before.before.before.before.before.before.before.before.before.before.before.before) (left c.before.before.before.before.before)
+returns-clause-block_after c = rw (accepted (goal.at.returns-clause-block_after c).Else-not-accepted)
+    (left (goal.at.returns-clause-block_after c).After-drop-2)

@@ -35,26 +35,26 @@ pairs : (c : After-halt_of-found) → let a = c.args in
     ≡ halt_pairs a.n a.member (member_of a.n (words a.block.now)) (record_within a.n (record_in a.newest))
     (record_within a.n (record_in a.stored)) a.seals
 pairs c =
-    let known = asked c.before in
+    let known = asked (goal.at.After-halt_of-found c).After-load_matrix-known in
     c.halt_of-found.ensures.pairs_value ∙ replied_pairs known.0 known.1.0 _ _ _
 
 pub returns-then-found-ne0-clause-result_value : goal.returns-then-found-ne0-clause-result_value
 returns-then-found-ne0-clause-result_value c =
-    pairs c.before.before.before.before.before.before.before
+    pairs (goal.at.returns-then-found-ne0-clause-result_value c).After-halt_of-found
 
 pub returns-then-found-ne0-clause-block_after : goal.returns-then-found-ne0-clause-block_after
 returns-then-found-ne0-clause-block_after c =
-    let known = asked c.before.before.before.before.before.before.before.before in
+    let known = asked (goal.at.returns-then-found-ne0-clause-block_after c).After-load_matrix-known in
     c.fail.ensures ∙ sym (replied_failed known.0 known.1.0 _ _ _ _ c.halt_of-found.ensures.number_value c.if-found-ne0.true)
 
 pub pass-requires : goal.pass-requires
-pass-requires c = asked c.before.before.before.before
+pass-requires c = asked (goal.at.pass-requires c).After-load_matrix-known
 
 pub returns-clause-result_value : goal.returns-clause-result_value
 returns-clause-result_value c =
-    pairs c.before.before.before.before.before.before.before
+    pairs (goal.at.returns-clause-result_value c).After-halt_of-found
 
 pub returns-clause-block_after : goal.returns-clause-block_after
 returns-clause-block_after c =
-    let known = asked c.before.before.before.before.before.before.before.before in
+    let known = asked (goal.at.returns-clause-block_after c).After-load_matrix-known in
     c.pass.ensures ∙ sym (replied_passed known.0 known.1.0 _ _ _ _ c.halt_of-found.ensures.number_value c.if-found-ne0.false)

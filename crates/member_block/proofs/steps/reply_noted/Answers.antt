@@ -40,7 +40,8 @@ noted : (c : After-load_record-stored) → let a = c.args in let m = member_of a
     ≡ replied a.n a.member m m.first m.second 3
 noted c =
     let a = c.args in
-    ap₂ (λ f s. replied a.n a.member (member_of a.n (words a.block.now)) f s 3) (newest c.before) (stored c)
+    ap₂ (λ f s. replied a.n a.member (member_of a.n (words a.block.now)) f s 3)
+    (newest (goal.at.After-load_record-stored c).After-load_record-newest) (stored c)
 
 pub load_matrix-known-requires : goal.load_matrix-known-requires
 load_matrix-known-requires c = (search rules, omega (arith, known_room c.args.n, c.layout-at.ensures.known))
@@ -54,22 +55,23 @@ unfolding block_size
 load_record-stored-requires c = (search rules, omega arith)
 
 pub halt_of-number-requires : goal.halt_of-number-requires
-halt_of-number-requires c = asked c.before.before
+halt_of-number-requires c = asked (goal.at.halt_of-number-requires c).After-load_matrix-known
 
 pub returns-then-number-ne0 : goal.returns-then-number-ne0
 returns-then-number-ne0 c =
-    let known = asked c.before.before.before.before.before.before.before.before.before in
+    let known = asked (goal.at.returns-then-number-ne0 c).After-load_matrix-known in
     c.fail.ensures
     ∙ sym (replied_failed known.0 known.1.0 _ _ _ _ c.halt_of-number.ensures.number_value c.if-number-ne0.true)
-    ∙ noted c.before.before.before.before.before.before.before
+    ∙ noted (goal.at.returns-then-number-ne0 c).After-load_record-stored
 
 pub pass_noted-requires : goal.pass_noted-requires
-pass_noted-requires c = asked c.before.before.before.before.before
+pass_noted-requires c = asked (goal.at.pass_noted-requires c).After-load_matrix-known
 
 pub returns : goal.returns
 returns c =
-    let known = asked c.before.before.before.before.before.before.before.before.before in
+    let at_load_record_stored = (goal.at.returns c).After-load_record-stored in
+    let known = asked (goal.at.returns c).After-load_matrix-known in
     c.pass_noted.ensures
-    ∙ ap (passed _ _ _ _) (sym (stored c.before.before.before.before.before.before.before))
+    ∙ ap (passed _ _ _ _) (sym (stored at_load_record_stored))
     ∙ sym (replied_passed known.0 known.1.0 _ _ _ _ c.halt_of-number.ensures.number_value c.if-number-ne0.false)
-    ∙ noted c.before.before.before.before.before.before.before
+    ∙ noted at_load_record_stored

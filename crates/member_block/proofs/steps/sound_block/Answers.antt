@@ -77,19 +77,32 @@ room c = omega (arith, head_room c.args.n, c.requires.long)
 -- What a test that passed leaves.
 
 past1 : (c : At-Else-not-sound_marks)
-    → answer c.before.before.before.before.before.before.before ≡ (leb (word c.before.before.before.before.before.before.before 3) c.args.n && leb (word c.before.before.before.before.before.before.before 4) 2 && operates c.before.before.before.before.before.before.before && first c.before.before.before.before.before.before.before && second c.before.before.before.before.before.before.before)
+    → answer c.before.before.before.before.before.before.before ≡
+    (leb (word c.before.before.before.before.before.before.before 3) c.args.n && leb
+    (word c.before.before.before.before.before.before.before 4) 2 && operates c.before.before.before.before.before.before.before
+    && first c.before.before.before.before.before.before.before && second c.before.before.before.before.before.before.before)
 past1 c = judged c.before.before.before.before.before.before.before ∙ rw (allowed c.sound_marks.ensures c.if-not-sound_marks.false-raw)
 
-past2 : (c : At-Else-n-slot) → answer c.before.before.before.before.before.before.before.before ≡ (leb (word c.before.before.before.before.before.before.before.before 4) 2 && operates c.before.before.before.before.before.before.before.before && first c.before.before.before.before.before.before.before.before && second c.before.before.before.before.before.before.before.before)
+past2 : (c : At-Else-n-slot) → answer c.before.before.before.before.before.before.before.before ≡
+    (leb (word c.before.before.before.before.before.before.before.before 4) 2 && operates
+    c.before.before.before.before.before.before.before.before && first c.before.before.before.before.before.before.before.before
+    && second c.before.before.before.before.before.before.before.before)
 past2 c = past1 c.before ∙ rw (le-leb _ _ c.if-n-slot.false)
 
-past3 : (c : At-Else-operation-gt2) → answer c.before.before.before.before.before.before.before.before.before ≡ (operates c.before.before.before.before.before.before.before.before.before && first c.before.before.before.before.before.before.before.before.before && second c.before.before.before.before.before.before.before.before.before)
+past3 : (c : At-Else-operation-gt2) → answer c.before.before.before.before.before.before.before.before.before ≡
+    (operates c.before.before.before.before.before.before.before.before.before && first
+    c.before.before.before.before.before.before.before.before.before && second
+    c.before.before.before.before.before.before.before.before.before)
 past3 c = past2 c.before ∙ rw (le-leb _ 2 c.if-operation-gt2.false)
 
-past4 : (c : At-Else-not-sound_operation) → answer c.before.before.before.before.before.before.before.before.before.before.before ≡ (first c.before.before.before.before.before.before.before.before.before.before.before && second c.before.before.before.before.before.before.before.before.before.before.before)
+past4 : (c : At-Else-not-sound_operation) → answer c.before.before.before.before.before.before.before.before.before.before.before
+    ≡ (first c.before.before.before.before.before.before.before.before.before.before.before && second
+    c.before.before.before.before.before.before.before.before.before.before.before)
 past4 c = past3 c.before.before ∙ rw (allowed c.sound_operation.ensures c.if-not-sound_operation.false-raw)
 
-past5 : (c : At-Else-not-sound_record) → answer c.before.before.before.before.before.before.before.before.before.before.before.before.before ≡ second c.before.before.before.before.before.before.before.before.before.before.before.before.before
+past5 : (c : At-Else-not-sound_record) → answer
+    c.before.before.before.before.before.before.before.before.before.before.before.before.before
+    ≡ second c.before.before.before.before.before.before.before.before.before.before.before.before.before
 past5 c = past4 c.before.before ∙ rw (allowed c.sound_record.ensures c.if-not-sound_record.false-raw)
 
 -- The needs.
@@ -110,7 +123,9 @@ pub bounds-block-2 : goal.bounds-block-2
 bounds-block-2 c = omega (arith, room c.before.before.before.before.before.before)
 
 pub returns-then-not-sound_marks : goal.returns-then-not-sound_marks
-returns-then-not-sound_marks c = sym (judged c.before.before.before.before.before.before.before.before ∙ rw (refused c.sound_marks.ensures c.if-not-sound_marks.true-raw))
+returns-then-not-sound_marks c = sym
+    (judged c.before.before.before.before.before.before.before.before
+    ∙ rw (refused c.sound_marks.ensures c.if-not-sound_marks.true-raw))
 
 pub returns-then-n-slot : goal.returns-then-n-slot
 returns-then-n-slot c = sym (past1 c.before.before ∙ rw (lt-leb _ _ c.if-n-slot.true))
@@ -119,7 +134,8 @@ pub returns-then-operation-gt2 : goal.returns-then-operation-gt2
 returns-then-operation-gt2 c = sym (past2 c.before.before ∙ rw (lt-leb _ 2 c.if-operation-gt2.true))
 
 pub returns-then-not-sound_operation : goal.returns-then-not-sound_operation
-returns-then-not-sound_operation c = sym (past3 c.before.before.before ∙ rw (refused c.sound_operation.ensures c.if-not-sound_operation.true-raw))
+returns-then-not-sound_operation c = sym
+    (past3 c.before.before.before ∙ rw (refused c.sound_operation.ensures c.if-not-sound_operation.true-raw))
 
 pub sound_record-requires : goal.sound_record-requires
 unfolding record_size

@@ -8,17 +8,12 @@ use Rattle.script.proofs.Reading.{held_none, held_some}
 use Rattle.overtaker.specs.Meaning.{held_asked}
 use Rattle.overtaker.proofs.Answers.{asked_count, asked_first, asked_second, asked_both}
 use Rattle.overtaker.proofs.Asked.read.Goals as goal
-use Rattle.overtaker.proofs.Asked.read.Lts as lts
-use Rattle.overtaker.proofs.Asked.read.Reads as reads
-use Rattle.overtaker.proofs.Asked.read.Tie as tie
-
-abbrev At-Else-not-member : Type 0
-At-Else-not-member = lts.Else2 tie.the-claims reads.Pre reads.Post
+use Rattle.overtaker.proofs.Asked.read.Goals.{Else-not-member}
 
 -- What is known at each place, built on the place before.
 
 -- the first argument is a number
-first : (c : At-Else-not-member) → let p = c.parse_number-member in number_of c.args.first.now ≡ some p.result.value
+first : (c : Else-not-member) → let p = c.parse_number-member in number_of c.args.first.now ≡ some p.result.value
 first c =
     let p = c.parse_number-member in
     held_some (number_of c.args.first.now) p.result p.ensures (not-false p.result.ok c.if-not-member.false)
@@ -45,12 +40,13 @@ returns-then-not-ordinal c =
     let a = c.args in
     let p = c.parse_number-ordinal in
     sym (asked_second a.count a.first.now a.second.now c.parse_number-member.result.value (search rules)
-    (first c.before.before.before.before) (held_none (number_of a.second.now) p.result p.ensures (not-true p.result.ok c.if-not-ordinal.true)))
+    (first (goal.at.returns-then-not-ordinal c).Else-not-member)
+    (held_none (number_of a.second.now) p.result p.ensures (not-true p.result.ok c.if-not-ordinal.true)))
 
 pub returns : goal.returns
 returns c =
     let a = c.args in
     let p = c.parse_number-ordinal in
     sym (asked_both a.count a.first.now a.second.now c.parse_number-member.result.value p.result.value
-    (search rules) (first c.before.before.before.before)
+    (search rules) (first (goal.at.returns c).Else-not-member)
     (held_some (number_of a.second.now) p.result p.ensures (not-false p.result.ok c.if-not-ordinal.false)))

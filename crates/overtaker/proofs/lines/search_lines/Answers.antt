@@ -14,36 +14,23 @@ use Rattle.overtaker.proofs.NextLine.{NextLine, next_line, ahead, first_ahead, s
 use Rattle.overtaker_search.proofs.LineTaken.{held_counts, search_ends, search_goes}
 use Rattle.overtaker.proofs.lines.search_lines.Invariants.{Passed}
 use Rattle.overtaker.proofs.lines.search_lines.Goals as goal
-use Rattle.overtaker.proofs.lines.search_lines.Lts as lts
-use Rattle.overtaker.proofs.lines.search_lines.Reads as reads
-use Rattle.overtaker.proofs.lines.search_lines.Tie as tie
-
-abbrev At-After-line_length : Type 0
-At-After-line_length = lts.After-line_length tie.the-claims reads.Pre reads.Post goal.the-invariant-loop-at goal.the-decreases-loop-at tie.handed_clauses
-
-abbrev At-Else-number-skip : Type 0
-At-Else-number-skip = lts.Else1 tie.the-claims reads.Pre reads.Post goal.the-invariant-loop-at goal.the-decreases-loop-at tie.handed_clauses
+use Rattle.overtaker.proofs.lines.search_lines.Goals.{After-line_length, Else-number-skip}
 
 -- What is known at each place, built on the place before.
 
-abbrev known : (c : At-After-line_length) → let a = c.args in
-    Passed a.table.now a.script.now a.member a.ordinal a.skip a.from c.loop-at.table c.loop-at.search c.loop-at.at
-    c.loop-at.number
-known c = c.loop-at.invariant
-
-next : (c : At-After-line_length)
+next : (c : After-line_length)
     → NextLine c.args.script.now c.loop-at.at c.line_length.result
 next c =
     next_line c.args.script.now c.loop-at.at c.loop-at-test.true c.line_length.result c.line_length.ensures
 
 -- the bytes of the line
-abbrev line : At-After-line_length → List ℕ
+abbrev line : After-line_length → List ℕ
 line c =
     let at = c.loop-at.at in
     take (at + c.line_length.result - at) (drop at c.args.script.now)
 
 -- the lines behind it, of those that run
-abbrev behind : At-After-line_length → List (List ℕ)
+abbrev behind : After-line_length → List (List ℕ)
 behind c =
     let a = c.args in
     ahead a.script.now a.skip (c.loop-at.number + 1) (c.loop-at.at + c.line_length.result + 1)
@@ -67,15 +54,15 @@ loop-at-init c =
     }
 
 pub overflow_add-end : goal.overflow_add-end
-overflow_add-end c = omega (arith, (next c.before).within, (known c.before).short)
+overflow_add-end c = omega (arith, (next c).within, c.loop-at.invariant.short)
 
 pub overflow_add-at : goal.overflow_add-at
-overflow_add-at c = omega (arith, (next c.before).within, (known c.before).short)
+overflow_add-at c = omega (arith, (next c).within, c.loop-at.invariant.short)
 
 pub loop-at-preserved-then-number-skip : goal.loop-at-preserved-then-number-skip
 loop-at-preserved-then-number-skip c =
     let a = c.args in
-    let i = known c.before.before in
+    let i = c.loop-at.invariant in
     record {
       whole = i.whole;
       long = i.long;
@@ -85,37 +72,42 @@ loop-at-preserved-then-number-skip c =
       count = omega (arith, i.count);
       same = i.same
           ∙ ap (lines_searched a.member a.ordinal c.loop-at.table (search_of c.loop-at.search))
-          (skips-line a.script.now a.skip c.loop-at.at c.line_length.result (next c.before.before) c.loop-at.number c.if-number-skip.true);
+          (skips-line a.script.now a.skip c.loop-at.at c.line_length.result
+          (next (goal.at.loop-at-preserved-then-number-skip c).After-line_length) c.loop-at.number c.if-number-skip.true);
     }
 
 -- A line that runs.
 
-ran_here : (c : At-Else-number-skip) → let a = c.args in
-    ahead a.script.now a.skip c.loop-at.number c.loop-at.at ≡ line c.before ∷ behind c.before
+ran_here : (c : Else-number-skip) → let at_line_length = (goal.at.Else-number-skip c).After-line_length in
+    let a = c.args in
+    ahead a.script.now a.skip c.loop-at.number c.loop-at.at ≡ line at_line_length ∷ behind at_line_length
 ran_here c =
     let a = c.args in
-    runs-line a.script.now a.skip c.loop-at.at c.line_length.result (next c.before) c.loop-at.number c.if-number-skip.false
+    runs-line a.script.now a.skip c.loop-at.at c.line_length.result
+    (next (goal.at.Else-number-skip c).After-line_length) c.loop-at.number c.if-number-skip.false
 
 pub slice_bounds-run_line-end : goal.slice_bounds-run_line-end
-slice_bounds-run_line-end c = let n = next c.before.before.before in search rules
+slice_bounds-run_line-end c = let n = next (goal.at.slice_bounds-run_line-end c).After-line_length in search rules
 
 pub returns-then-done-eq-MALFORMED : goal.returns-then-done-eq-MALFORMED
 returns-then-done-eq-MALFORMED c =
+    let at_line_length = (goal.at.returns-then-done-eq-MALFORMED c).After-line_length in
     let a = c.args in
     let s = search_of c.loop-at.search in
     c.refused.ensures
-    ∙ sym ((known c.before.before.before.before.before.before.before.before.before.before).same
-    ∙ ap (lines_searched a.member a.ordinal c.loop-at.table s) (ran_here c.before.before.before.before.before.before.before.before.before)
-    ∙ search_ends a.member a.ordinal (line c.before.before.before.before.before.before.before.before.before.before) (behind c.before.before.before.before.before.before.before.before.before.before) c.loop-at.table s c.run_line-done.result
+    ∙ sym (c.loop-at.invariant.same
+    ∙ ap (lines_searched a.member a.ordinal c.loop-at.table s) (ran_here (goal.at.returns-then-done-eq-MALFORMED c).Else-number-skip)
+    ∙ search_ends a.member a.ordinal (line at_line_length) (behind at_line_length) c.loop-at.table s c.run_line-done.result
     c.run_line-done.ensures.step_held c.if-done-eq-MALFORMED.true)
 
 pub loop-at-preserved : goal.loop-at-preserved
 loop-at-preserved c =
+    let at_line_length = (goal.at.loop-at-preserved c).After-line_length in
     let a = c.args in
-    let i = known c.before.before.before.before.before.before.before.before.before.before in
+    let i = c.loop-at.invariant in
     let r = c.step-search.result in
     let s = search_of c.loop-at.search in
-    let happened = (step_line concur c.loop-at.table (line c.before.before.before.before.before.before.before.before.before.before)).happened in
+    let happened = (step_line concur c.loop-at.table (line at_line_length)).happened in
     let counts = held_counts a.member a.ordinal c.loop-at.search r c.run_line-done.result happened c.run_line-done.ensures.step_held
     c.if-done-eq-MALFORMED.false c.step-search.ensures in
     record {
@@ -126,9 +118,10 @@ loop-at-preserved c =
       steps = omega (arith, i.steps, counts.0);
       count = omega (arith, i.count);
       same = i.same
-          ∙ ap (lines_searched a.member a.ordinal c.loop-at.table s) (ran_here c.before.before.before.before.before.before.before.before.before)
-          ∙ search_goes a.member a.ordinal (line c.before.before.before.before.before.before.before.before.before.before) (behind c.before.before.before.before.before.before.before.before.before.before) c.loop-at.table s c.run_line-done.result
-          c.run_line-done.ensures.step_held c.if-done-eq-MALFORMED.false c.run_line-done.new.table c.run_line-done.ensures.table_after (search_of r)
+          ∙ ap (lines_searched a.member a.ordinal c.loop-at.table s) (ran_here (goal.at.loop-at-preserved c).Else-number-skip)
+          ∙ search_goes a.member a.ordinal (line at_line_length) (behind at_line_length) c.loop-at.table s c.run_line-done.result
+          c.run_line-done.ensures.step_held c.if-done-eq-MALFORMED.false c.run_line-done.new.table
+          c.run_line-done.ensures.table_after (search_of r)
           c.step-search.ensures;
     }
 

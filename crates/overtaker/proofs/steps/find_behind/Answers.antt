@@ -15,62 +15,52 @@ use Rattle.model.proofs.Cause.{without_none}
 use Rattle.overtaker_search.specs.Meaning.{held_overtaker}
 use Rattle.overtaker.proofs.Answers.{lines-malformed, no_size}
 use Rattle.overtaker.proofs.steps.find_behind.Goals as goal
-use Rattle.overtaker.proofs.steps.find_behind.Goals.{Start}
-use Rattle.overtaker.proofs.steps.find_behind.Lts as lts
-use Rattle.overtaker.proofs.steps.find_behind.Reads as reads
-use Rattle.overtaker.proofs.steps.find_behind.Tie as tie
-
-abbrev At-After-table_size-size : Type 0
-At-After-table_size-size = lts.After-table_size tie.the-claims reads.Pre reads.Post
-
-abbrev At-Else-is_numbered : Type 0
-At-Else-is_numbered = lts.Else1 tie.the-claims reads.Pre reads.Post
-
-abbrev At-Then-is_numbered : Type 0
-At-Then-is_numbered = lts.Then1 tie.the-claims reads.Pre reads.Post
+use Rattle.overtaker.proofs.steps.find_behind.Goals.{After-table_size-size, Else-is_numbered, Start, Then-is_numbered}
 
 -- What is known at each place, built on the place before.
 
 abbrev behind : Start → List (List ℕ)
 behind s = lines_of (drop s.args.from s.args.script.now)
 
-within : (c : At-Then-is_numbered) → inside 12 c.args.n ≡ true
+within : (c : Then-is_numbered) → inside 12 c.args.n ≡ true
 within c = sym c.is_numbered.ensures ∙ c.if-is_numbered.true
 
-outside : (c : At-Else-is_numbered) → inside 12 c.args.n ≡ false
+outside : (c : Else-is_numbered) → inside 12 c.args.n ≡ false
 outside c = sym c.is_numbered.ensures ∙ c.if-is_numbered.false
 
-lent_long : (c : At-After-table_size-size) → length (take c.table_size-size.result c.args.table.now) ≡ c.table_size-size.result
+lent_long : (c : After-table_size-size) → length (take c.table_size-size.result c.args.table.now) ≡ c.table_size-size.result
 lent_long c =
     length-take-le c.table_size-size.result c.args.table.now (omega (arith, c.table_size-size.ensures.1, c.requires.1))
 
 -- The needs.
 
 pub table_size-size-requires : goal.table_size-size-requires
-table_size-size-requires c = inside_high 12 c.args.n (within c.before)
+table_size-size-requires c = inside_high 12 c.args.n (within c)
 
 pub search_board-requires : goal.search_board-requires
 search_board-requires c =
-    let w = within c.before.before.before in (
+    let w = within (goal.at.search_board-requires c).Then-is_numbered in (
       record { least = inside_low 12 c.args.n w; most = inside_high 12 c.args.n w },
-      (lent_long c.before.before ∙ c.table_size-size.ensures.0, c.requires.0),
+      (lent_long (goal.at.search_board-requires c).After-table_size-size ∙ c.table_size-size.ensures.0, c.requires.0),
     )
 
 pub returns-then-is_numbered : goal.returns-then-is_numbered
 returns-then-is_numbered c =
     let a = c.args in
     c.search_board.ensures
-    ∙ ap (λ lines. held_overtaker (lines_overtaker a.n lines a.member a.ordinal)) (without_none (behind c.before.before.before.before.before.before.before.before.before.before))
+    ∙ ap (λ lines. held_overtaker (lines_overtaker a.n lines a.member a.ordinal))
+    (without_none (behind (goal.at.returns-then-is_numbered c).Start))
 
 pub returns-then-well_formed : goal.returns-then-well_formed
 returns-then-well_formed c =
     let formed = sym c.well_formed-2.ensures ∙ c.if-well_formed.true in
     c.refused.ensures
     ∙ ap held_overtaker
-    (sym (no_size c.args.member c.args.ordinal c.args.n (behind c.before.before.before.before.before.before.before.before) (outside c.before.before.before.before) formed))
+    (sym (no_size c.args.member c.args.ordinal c.args.n (behind (goal.at.returns-then-well_formed c).Start)
+    (outside (goal.at.returns-then-well_formed c).Else-is_numbered) formed))
 
 pub returns : goal.returns
 returns c =
     let malformed = sym c.well_formed-2.ensures ∙ c.if-well_formed.false in
     c.refused-2.ensures
-    ∙ ap held_overtaker (sym (lines-malformed c.args.member c.args.ordinal c.args.n (behind c.before.before.before.before.before.before.before.before) malformed))
+    ∙ ap held_overtaker (sym (lines-malformed c.args.member c.args.ordinal c.args.n (behind (goal.at.returns c).Start) malformed))

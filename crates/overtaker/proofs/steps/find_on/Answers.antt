@@ -16,46 +16,35 @@ use Rattle.script.proofs.Reading.{held_none, held_some}
 use Rattle.overtaker_search.specs.Meaning.{held_overtaker}
 use Rattle.overtaker.proofs.Answers.{too_long, no_lines, first-malformed, first-named}
 use Rattle.overtaker.proofs.steps.find_on.Goals as goal
-use Rattle.overtaker.proofs.steps.find_on.Lts as lts
-use Rattle.overtaker.proofs.steps.find_on.Reads as reads
-use Rattle.overtaker.proofs.steps.find_on.Tie as tie
-
-abbrev At-After-line_length-end : Type 0
-At-After-line_length-end = lts.After-line_length tie.the-claims reads.Pre reads.Post
-
-abbrev At-Else-not-members : Type 0
-At-Else-not-members = lts.Else3 tie.the-claims reads.Pre reads.Post
-
-abbrev At-Then-not-members : Type 0
-At-Then-not-members = lts.Then3 tie.the-claims reads.Pre reads.Post
+use Rattle.overtaker.proofs.steps.find_on.Goals.{After-line_length-end, Else-not-members, Then-not-members}
 
 -- What is known at each place, built on the place before.
 
-abbrev script : At-After-line_length-end → List ℕ
-script c = c.args.script.now
-
 -- of bytes that are a script: few enough, and at least one
-few : (c : At-After-line_length-end) → length (script c) ≤ most_bytes
+few : (c : After-line_length-end) → length c.args.script.now ≤ most_bytes
 few c = omega (arith, c.if-script-gt-MOST_BYTES.false)
 
-some_bytes : (c : At-After-line_length-end) → 0 < length (script c)
+some_bytes : (c : After-line_length-end) → 0 < length c.args.script.now
 some_bytes c = let n = c.if-script-eq0.false in search rules
 
 -- the first line
-within : (c : At-After-line_length-end) → c.line_length-end.result ≤ length (script c)
-within c = omega (arith, c.line_length-end.ensures, before_within line_feed (script c))
+within : (c : After-line_length-end) → c.line_length-end.result ≤ length c.args.script.now
+within c = omega (arith, c.line_length-end.ensures, before_within line_feed c.args.script.now)
 
-abbrev first : At-After-line_length-end → List ℕ
-first c = take c.line_length-end.result (script c)
+abbrev first : After-line_length-end → List ℕ
+first c = take c.line_length-end.result c.args.script.now
 
-malformed : (c : At-Then-not-members) → first_of (first c.before.before.before) ≡ none
+malformed : (c : Then-not-members) → first_of (first (goal.at.Then-not-members c).After-line_length-end) ≡ none
 malformed c =
-    held_none (first_of (first c.before.before.before)) c.parse_members-members.result c.parse_members-members.ensures
+    held_none (first_of (first (goal.at.Then-not-members c).After-line_length-end)) c.parse_members-members.result
+    c.parse_members-members.ensures
     (not-true c.parse_members-members.result.ok c.if-not-members.true)
 
-named : (c : At-Else-not-members) → first_of (first c.before.before.before) ≡ some c.parse_members-members.result.value
+named : (c : Else-not-members) → first_of (first (goal.at.Else-not-members c).After-line_length-end)
+    ≡ some c.parse_members-members.result.value
 named c =
-    held_some (first_of (first c.before.before.before)) c.parse_members-members.result c.parse_members-members.ensures
+    held_some (first_of (first (goal.at.Else-not-members c).After-line_length-end)) c.parse_members-members.result
+    c.parse_members-members.ensures
     (not-false c.parse_members-members.result.ok c.if-not-members.false)
 
 -- The needs.
@@ -72,21 +61,25 @@ returns-then-script-eq0 c =
 
 pub slice_bounds-parse_members-end : goal.slice_bounds-parse_members-end
 slice_bounds-parse_members-end c =
-    sym (length-take-le c.line_length-end.result (script c.before) (within c.before))
+    sym (length-take-le c.line_length-end.result c.args.script.now (within c))
 
 pub returns-then-not-members : goal.returns-then-not-members
 returns-then-not-members c =
+    let at_line_length_end = (goal.at.returns-then-not-members c).After-line_length-end in
     let a = c.args in
     c.refused-then-not-members.ensures
-    ∙ ap held_overtaker (sym (first-malformed a.member a.ordinal (script c.before.before.before.before.before) (few c.before.before.before.before.before) (some_bytes c.before.before.before.before.before)
-    c.line_length-end.result c.line_length-end.ensures (malformed c.before.before)))
+    ∙ ap held_overtaker (sym (first-malformed a.member a.ordinal c.args.script.now (few at_line_length_end) (some_bytes at_line_length_end)
+    c.line_length-end.result c.line_length-end.ensures (malformed (goal.at.returns-then-not-members c).Then-not-members)))
 
 pub overflow_add-end : goal.overflow_add-end
-overflow_add-end c = omega (arith, within c.before.before.before.before, few c.before.before.before.before)
+overflow_add-end c =
+    let at_line_length_end = (goal.at.overflow_add-end c).After-line_length-end in
+    omega (arith, within at_line_length_end, few at_line_length_end)
 
 pub returns : goal.returns
 returns c =
+    let at_line_length_end = (goal.at.returns c).After-line_length-end in
     let a = c.args in
     c.find_behind.ensures
-    ∙ ap held_overtaker (sym (first-named a.member a.ordinal (script c.before.before.before.before.before.before.before.before) (few c.before.before.before.before.before.before.before.before) (some_bytes c.before.before.before.before.before.before.before.before)
-    c.line_length-end.result c.line_length-end.ensures c.parse_members-members.result.value (named c.before.before.before.before.before)))
+    ∙ ap held_overtaker (sym (first-named a.member a.ordinal c.args.script.now (few at_line_length_end) (some_bytes at_line_length_end)
+    c.line_length-end.result c.line_length-end.ensures c.parse_members-members.result.value (named (goal.at.returns c).Else-not-members)))

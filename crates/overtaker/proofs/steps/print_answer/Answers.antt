@@ -12,26 +12,18 @@ use Rattle.script.proofs.Printing.{field_short}
 use Rattle.script_run.proofs.Held.{wrote, wrote_front}
 use Rattle.overtaker.proofs.Answers.{refusal_printed, name_printed}
 use Rattle.overtaker.proofs.steps.print_answer.Goals as goal
-use Rattle.overtaker.proofs.steps.print_answer.Lts as lts
-use Rattle.overtaker.proofs.steps.print_answer.Reads as reads
-use Rattle.overtaker.proofs.steps.print_answer.Tie as tie
-
-abbrev At-Else-number-ne0 : Type 0
-At-Else-number-ne0 = lts.Else1 tie.the-claims reads.Pre reads.Post tie.handed_clauses
-
-abbrev At-Then-number-ne0 : Type 0
-At-Then-number-ne0 = lts.Then1 tie.the-claims reads.Pre reads.Post tie.handed_clauses
+use Rattle.overtaker.proofs.steps.print_answer.Goals.{Else-number-ne0, Then-number-ne0}
 
 -- What is known at each place, built on the place before.
 
-number_short : (c : At-Then-number-ne0) → length (field (some c.args.found.number) line_feed) ≤ 11
+number_short : (c : Then-number-ne0) → length (field (some c.args.found.number) line_feed) ≤ 11
 number_short c = field_short true c.args.found.number line_feed (search rules)
 
 -- the text of a member and a step, and how long it is
-abbrev name : At-Else-number-ne0 → List ℕ
+abbrev name : Else-number-ne0 → List ℕ
 name c = let f = c.args.found in field (some f.member) space ++ field (some f.step) line_feed
 
-name_short : (c : At-Else-number-ne0) → length (name c) ≤ 22
+name_short : (c : Else-number-ne0) → length (name c) ≤ 22
 name_short c =
     let f = c.args.found in
     simp length-append (omega (
@@ -43,18 +35,19 @@ name_short c =
 -- The needs.
 
 pub print_field-requires : goal.print_field-requires
-print_field-requires c = omega (arith, number_short c.before, c.requires)
+print_field-requires c = omega (arith, number_short (goal.at.print_field-requires c).Then-number-ne0, c.requires)
 
 pub returns-then-number-ne0-clause-out_after : goal.returns-then-number-ne0-clause-out_after
 returns-then-number-ne0-clause-out_after c =
     let a = c.args in
-    let w = wrote c.print_field.ensures (omega (arith, number_short c.before.before.before.before.before, c.requires)) in
+    let w = wrote c.print_field.ensures
+    (omega (arith, number_short (goal.at.returns-then-number-ne0-clause-out_after c).Then-number-ne0, c.requires)) in
     λ x n e. wrote_front w (omega arith) ∙ sym (refusal_printed x a.found n e c.if-number-ne0.true)
 
 pub print_pair-requires : goal.print_pair-requires
-print_pair-requires c = omega (arith, name_short c.before, c.requires)
+print_pair-requires c = omega (arith, name_short (goal.at.print_pair-requires c).Else-number-ne0, c.requires)
 
 pub returns-clause-out_after : goal.returns-clause-out_after
 returns-clause-out_after c =
-    let w = wrote c.print_pair.ensures (omega (arith, name_short c.before.before.before.before.before, c.requires)) in
+    let w = wrote c.print_pair.ensures (omega (arith, name_short (goal.at.returns-clause-out_after c).Else-number-ne0, c.requires)) in
     λ x n e. wrote_front w (omega arith) ∙ sym (name_printed x c.args.found n e (search rules))

@@ -9,7 +9,8 @@ use Rattle.records.proofs.steps.store_matrix.Given as goal
 
 abbrev pub invariant-loop-j : goal.invariant-loop-j
 invariant-loop-j l =
-    (l.j ≤ l.n) × ((length l.t ≡ length l.initial.t) × (words l.t ≡ pasted l.at (l.j * l.n) (matrix_word l.n (matrix_in l.matrix)) (words l.initial.t)))
+    (l.j ≤ l.n) × ((length l.t ≡ length l.initial.t) ×
+    (words l.t ≡ pasted l.at (l.j * l.n) (matrix_word l.n (matrix_in l.matrix)) (words l.initial.t)))
 
 abbrev pub decreases-loop-j : goal.decreases-loop-j
 decreases-loop-j l = l.n - l.j

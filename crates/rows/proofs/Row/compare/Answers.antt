@@ -8,13 +8,6 @@ use Rattle.lists.proofs.Functions.{each_none}
 use Rattle.model.specs.Rows.{below}
 use Rattle.rows.proofs.Laws.{flag_more, flags_decide}
 use Rattle.rows.proofs.Row.compare.Goals as goal
-use Rattle.rows.proofs.Row.compare.Goals.{At-loop-i, In-loop-i, Start}
-
-abbrev start : At-loop-i → Start
-start c = c.before.before
-
-abbrev at_loop : In-loop-i → At-loop-i
-at_loop c = c.before
 
 pub loop-i-init : goal.loop-i-init
 unfolding below
@@ -22,9 +15,8 @@ loop-i-init c = (search rules, (search rules, (search rules, (ap not (sym (each_
 
 pub loop-i-preserved : goal.loop-i-preserved
 loop-i-preserved c =
-    let loop = at_loop c.before.before in
-    let a = (start loop).args in
-    let l = loop.loop-i in
+    let a = c.args in
+    let l = c.loop-i in
     let flags = l.invariant.1.1.1 in
     let h : l.i < 12 = omega arith in
     let first = flag_more a.self a.other l.i h flags.0 in
@@ -34,9 +26,8 @@ loop-i-preserved c =
 -- once every entry is passed the flags decide, and all entries were looked at
 pub returns-clause-answer_value : goal.returns-clause-answer_value
 returns-clause-answer_value c =
-    let loop = c.before.before in
-    let a = (start loop).args in
-    let l = loop.loop-i in
+    let a = c.args in
+    let l = c.loop-i in
     let flags = l.invariant.1.1.1 in
     let decided = flags_decide (min a.n 12) l.i a.self a.other (omega arith) flags.0 flags.1 in
     c.by_flags-answer.ensures ∙ sym decided

@@ -9,7 +9,8 @@ abbrev pub invariant-loop-i : goal.invariant-loop-i
 invariant-loop-i l =
     (l.i ≤ l.last)
     × ((l.last ≡ min l.n 12)
-    × ((l.pairs ≡ l.i) × ((l.exceeds ≡ not (below l.i (row_in l.self) (row_in l.other))) × (l.exceeded ≡ not (below l.i (row_in l.other) (row_in l.self))))))
+    × ((l.pairs ≡ l.i) × ((l.exceeds ≡ not (below l.i (row_in l.self) (row_in l.other))) ×
+    (l.exceeded ≡ not (below l.i (row_in l.other) (row_in l.self))))))
 
 abbrev pub decreases-loop-i : goal.decreases-loop-i
 decreases-loop-i l = l.last - l.i

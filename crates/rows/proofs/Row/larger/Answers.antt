@@ -8,16 +8,16 @@ use Rattle.rows.proofs.Row.larger.Goals as goal
 use Rattle.rows.proofs.Row.larger.Goals.{After-equal_or_below}
 
 tested : (c : After-equal_or_below) →
-    let a = c.before.before.args in
+    let a = c.args in
     c.equal_or_below.result ≡ below (min a.n 12) (row_in a.self) (row_in a.other)
 tested c =
-    let a = c.before.before.args in
-    answer_below (min a.n 12) a.self a.other c.before.compare-answer.ensures.answer_value c.equal_or_below.ensures
+    let a = c.args in
+    answer_below (min a.n 12) a.self a.other c.compare-answer.ensures.answer_value c.equal_or_below.ensures
 
 pub returns-then-equal_or_below : goal.returns-then-equal_or_below
 unfolding larger
-returns-then-equal_or_below c = rw (sym (tested c.before) ∙ c.if-equal_or_below.true)
+returns-then-equal_or_below c = rw (sym (tested (goal.at.returns-then-equal_or_below c).After-equal_or_below) ∙ c.if-equal_or_below.true)
 
 pub returns-else-equal_or_below : goal.returns-else-equal_or_below
 unfolding larger
-returns-else-equal_or_below c = rw (sym (tested c.before) ∙ c.if-equal_or_below.false)
+returns-else-equal_or_below c = rw (sym (tested (goal.at.returns-else-equal_or_below c).After-equal_or_below) ∙ c.if-equal_or_below.false)

@@ -13,18 +13,18 @@ use Rattle.rows.proofs.Row.with.Goals as goal
 
 pub returns-then-member-lt1 : goal.returns-then-member-lt1
 returns-then-member-lt1 c =
-    let a = c.before.args in
+    let a = c.args in
     let e : a.member ≡ 0 = omega arith in
     sym (with_count_out 12 (row_in a.self) a.member a.count (rw e (inside_zero 12)))
 
 pub returns-then-member-gt12 : goal.returns-then-member-gt12
 returns-then-member-gt12 c =
-    let a = c.before.before.args in
+    let a = c.args in
     sym (with_count_out 12 (row_in a.self) a.member a.count (inside_above 12 a.member c.if-member-gt12.true))
 
 pub returns : goal.returns
 returns c =
-    let a = c.before.before.args in
+    let a = c.args in
     let e : a.member - 1 + 1 ≡ a.member = omega arith in
     let l : length a.self.counts ≡ 12 = search rules in
     count_set a.self _ (a.member - 1) a.count (omega arith) (omega arith) refl

@@ -18,7 +18,7 @@ returns-then-kind-eq-WRITE-clause-number_value c =
     let a = c.args in
     let value = value_of (words (0 ∷ 0 ∷ 0 ∷ 0 ∷ 0 ∷ 0 ∷ 0 ∷ a.argument ∷ [])) in
     let b = c.begin in
-    (call_plain a.table.now (call c.before.before.before.before.before.before.before.before) (begin a.member a.member 2 value)
+    (call_plain a.table.now (call (goal.at.returns-then-kind-eq-WRITE-clause-number_value c).Start) (begin a.member a.member 2 value)
     (call_write a.kind a.member a.argument c.if-kind-eq-WRITE.true) (begin_silent a.member a.member 2 value)
     c.nothing.result b.result b.new.table c.nothing.ensures.0 c.nothing.ensures.1.0 b.ensures.value b.ensures.table_after).0
 
@@ -27,7 +27,7 @@ returns-then-kind-eq-WRITE-clause-result_value c =
     let a = c.args in
     let value = value_of (words (0 ∷ 0 ∷ 0 ∷ 0 ∷ 0 ∷ 0 ∷ 0 ∷ a.argument ∷ [])) in
     let b = c.begin in
-    (call_plain a.table.now (call c.before.before.before.before.before.before.before.before) (begin a.member a.member 2 value)
+    (call_plain a.table.now (call (goal.at.returns-then-kind-eq-WRITE-clause-result_value c).Start) (begin a.member a.member 2 value)
     (call_write a.kind a.member a.argument c.if-kind-eq-WRITE.true) (begin_silent a.member a.member 2 value)
     c.nothing.result b.result b.new.table c.nothing.ensures.0 c.nothing.ensures.1.0 b.ensures.value b.ensures.table_after).1.0
 
@@ -36,7 +36,7 @@ returns-then-kind-eq-WRITE-clause-table_after c =
     let a = c.args in
     let value = value_of (words (0 ∷ 0 ∷ 0 ∷ 0 ∷ 0 ∷ 0 ∷ 0 ∷ a.argument ∷ [])) in
     let b = c.begin in
-    (call_plain a.table.now (call c.before.before.before.before.before.before.before.before) (begin a.member a.member 2 value)
+    (call_plain a.table.now (call (goal.at.returns-then-kind-eq-WRITE-clause-table_after c).Start) (begin a.member a.member 2 value)
     (call_write a.kind a.member a.argument c.if-kind-eq-WRITE.true) (begin_silent a.member a.member 2 value)
     c.nothing.result b.result b.new.table c.nothing.ensures.0 c.nothing.ensures.1.0 b.ensures.value b.ensures.table_after).1.1
 
@@ -45,27 +45,30 @@ returns-then-kind-eq-READ-clause-number_value c =
     let a = c.args in
     let value = value_of (words (replicate 8 0)) in
     let b = c.begin-then-kind-eq-READ in
-    (call_plain a.table.now (call c.before.before.before.before.before.before.before.before.before) (begin a.member a.argument 1 value)
+    (call_plain a.table.now (call (goal.at.returns-then-kind-eq-READ-clause-number_value c).Start) (begin a.member a.argument 1 value)
     (call_read a.kind a.member a.argument c.if-kind-eq-READ.true) (begin_silent a.member a.argument 1 value)
-    c.nothing-then-kind-eq-READ.result b.result b.new.table c.nothing-then-kind-eq-READ.ensures.0 c.nothing-then-kind-eq-READ.ensures.1.0 b.ensures.value b.ensures.table_after).0
+    c.nothing-then-kind-eq-READ.result b.result b.new.table c.nothing-then-kind-eq-READ.ensures.0
+    c.nothing-then-kind-eq-READ.ensures.1.0 b.ensures.value b.ensures.table_after).0
 
 pub returns-then-kind-eq-READ-clause-result_value : goal.returns-then-kind-eq-READ-clause-result_value
 returns-then-kind-eq-READ-clause-result_value c =
     let a = c.args in
     let value = value_of (words (replicate 8 0)) in
     let b = c.begin-then-kind-eq-READ in
-    (call_plain a.table.now (call c.before.before.before.before.before.before.before.before.before) (begin a.member a.argument 1 value)
+    (call_plain a.table.now (call (goal.at.returns-then-kind-eq-READ-clause-result_value c).Start) (begin a.member a.argument 1 value)
     (call_read a.kind a.member a.argument c.if-kind-eq-READ.true) (begin_silent a.member a.argument 1 value)
-    c.nothing-then-kind-eq-READ.result b.result b.new.table c.nothing-then-kind-eq-READ.ensures.0 c.nothing-then-kind-eq-READ.ensures.1.0 b.ensures.value b.ensures.table_after).1.0
+    c.nothing-then-kind-eq-READ.result b.result b.new.table c.nothing-then-kind-eq-READ.ensures.0
+    c.nothing-then-kind-eq-READ.ensures.1.0 b.ensures.value b.ensures.table_after).1.0
 
 pub returns-then-kind-eq-READ-clause-table_after : goal.returns-then-kind-eq-READ-clause-table_after
 returns-then-kind-eq-READ-clause-table_after c =
     let a = c.args in
     let value = value_of (words (replicate 8 0)) in
     let b = c.begin-then-kind-eq-READ in
-    (call_plain a.table.now (call c.before.before.before.before.before.before.before.before.before) (begin a.member a.argument 1 value)
+    (call_plain a.table.now (call (goal.at.returns-then-kind-eq-READ-clause-table_after c).Start) (begin a.member a.argument 1 value)
     (call_read a.kind a.member a.argument c.if-kind-eq-READ.true) (begin_silent a.member a.argument 1 value)
-    c.nothing-then-kind-eq-READ.result b.result b.new.table c.nothing-then-kind-eq-READ.ensures.0 c.nothing-then-kind-eq-READ.ensures.1.0 b.ensures.value b.ensures.table_after).1.1
+    c.nothing-then-kind-eq-READ.result b.result b.new.table c.nothing-then-kind-eq-READ.ensures.0
+    c.nothing-then-kind-eq-READ.ensures.1.0 b.ensures.value b.ensures.table_after).1.1
 
 pub returns-then-kind-eq-DELIVER-clause-number_value : goal.returns-then-kind-eq-DELIVER-clause-number_value
 returns-then-kind-eq-DELIVER-clause-number_value c =
@@ -89,7 +92,7 @@ pub returns-clause-number_value : goal.returns-clause-number_value
 returns-clause-number_value c =
     let a = c.args in
     let k = c.crash in
-    (call_plain a.table.now (call c.before.before.before.before.before.before.before.before.before.before) (crash a.member)
+    (call_plain a.table.now (call (goal.at.returns-clause-number_value c).Start) (crash a.member)
     (call_crash a.kind a.member a.argument c.if-kind-eq-WRITE.false c.if-kind-eq-READ.false c.if-kind-eq-DELIVER.false)
     (crash_silent a.member)
     c.nothing-2.result k.result k.new.table c.nothing-2.ensures.0 c.nothing-2.ensures.1.0 k.ensures.value k.ensures.table_after).0
@@ -98,7 +101,7 @@ pub returns-clause-result_value : goal.returns-clause-result_value
 returns-clause-result_value c =
     let a = c.args in
     let k = c.crash in
-    (call_plain a.table.now (call c.before.before.before.before.before.before.before.before.before.before) (crash a.member)
+    (call_plain a.table.now (call (goal.at.returns-clause-result_value c).Start) (crash a.member)
     (call_crash a.kind a.member a.argument c.if-kind-eq-WRITE.false c.if-kind-eq-READ.false c.if-kind-eq-DELIVER.false)
     (crash_silent a.member)
     c.nothing-2.result k.result k.new.table c.nothing-2.ensures.0 c.nothing-2.ensures.1.0 k.ensures.value k.ensures.table_after).1.0
@@ -107,7 +110,7 @@ pub returns-clause-table_after : goal.returns-clause-table_after
 returns-clause-table_after c =
     let a = c.args in
     let k = c.crash in
-    (call_plain a.table.now (call c.before.before.before.before.before.before.before.before.before.before) (crash a.member)
+    (call_plain a.table.now (call (goal.at.returns-clause-table_after c).Start) (crash a.member)
     (call_crash a.kind a.member a.argument c.if-kind-eq-WRITE.false c.if-kind-eq-READ.false c.if-kind-eq-DELIVER.false)
     (crash_silent a.member)
     c.nothing-2.result k.result k.new.table c.nothing-2.ensures.0 c.nothing-2.ensures.1.0 k.ensures.value k.ensures.table_after).1.1

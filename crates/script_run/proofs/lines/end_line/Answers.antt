@@ -12,13 +12,7 @@ use Rattle.script_run.specs.Meaning.{events_of, Whole, state_of}
 use Rattle.script_run.proofs.Held.{step_whole}
 use Rattle.script_run.proofs.States.{line_first, line_step, ended-ran}
 use Rattle.script_run.proofs.lines.end_line.Goals as goal
-use Rattle.script_run.proofs.lines.end_line.Goals.{Start}
-use Rattle.script_run.proofs.lines.end_line.Lts as lts
-use Rattle.script_run.proofs.lines.end_line.Reads as reads
-use Rattle.script_run.proofs.lines.end_line.Tie as tie
-
-abbrev At-Else-step-eq0 : Type 0
-At-Else-step-eq0 = lts.Else1 tie.the-claims reads.Pre reads.Post tie.handed_clauses
+use Rattle.script_run.proofs.lines.end_line.Goals.{Else-step-eq0, Start}
 
 -- What is known at each place, built on the place before.
 
@@ -32,7 +26,7 @@ line s = take s.args.p.kept s.args.kept.now
 lent_long : (s : Start) → length (lent s) ≡ s.args.p.size
 lent_long s = let r = s.requires.0 in length-take-le s.args.p.size s.args.table.now (omega (arith, r.size, r.room))
 
-whole : (c : At-Else-step-eq0) → Whole (lent c.before.before.before)
+whole : (c : Else-step-eq0) → Whole (lent (goal.at.Else-step-eq0 c).Start)
 whole c =
     let n = c.if-step-eq0.false in
     c.requires.0.whole (omega arith) c.requires.1
@@ -47,12 +41,14 @@ returns-then-step-eq0 c =
 pub returns : goal.returns
 unfolding events_of
 returns c =
+    let start = (goal.at.returns c).Start in
     let a = c.args in
     let r = c.run_line-done in
-    let happened = (step_line concur (lent c.before.before.before.before.before.before.before.before) (line c.before.before.before.before.before.before.before.before)).happened in
+    let happened = (step_line concur (lent start) (line start)).happened in
     let e = line_step a.p a.table.now a.kept.now c.if-step-eq0.false
     ∙ ap (λ t. ended (a.p.step + 1) t (steps a.p.step happened)) (sym r.ensures.table_after) in
-    let kept : Whole r.new.table = rw r.ensures.table_after (step_whole (lent c.before.before.before.before.before.before.before.before) (line c.before.before.before.before.before.before.before.before) (whole c.before.before.before.before.before)) in
+    let kept : Whole r.new.table = rw r.ensures.table_after
+    (step_whole (lent start) (line start) (whole (goal.at.returns c).Else-step-eq0)) in
     ended-ran a.p a.table.now a.kept.now c.requires.0 (line_run concur (state_of a.p a.table.now a.kept.now)) _
-    (a.p.step + 1) a.p.size r.new.table (r.auto.table ∙ lent_long c.before.before.before.before.before.before.before.before) c.requires.0.size kept (steps a.p.step happened) e refl
+    (a.p.step + 1) a.p.size r.new.table (r.auto.table ∙ lent_long start) c.requires.0.size kept (steps a.p.step happened) e refl
     (record { happened = happened; held = r.ensures.step_held; events = refl; made = r.ensures.made; size = λ e. absurd (omega arith) })

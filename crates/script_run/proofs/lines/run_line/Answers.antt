@@ -12,22 +12,15 @@ use Rattle.script_run.specs.declared.Done.{Done}
 use Rattle.script_run.proofs.Held.{whole_after, step_malformed, step_made, call_shown}
 use Rattle.script_run.proofs.Made.{line_made}
 use Rattle.script_run.proofs.lines.run_line.Goals as goal
-use Rattle.script_run.proofs.lines.run_line.Lts as lts
-use Rattle.script_run.proofs.lines.run_line.Reads as reads
-use Rattle.script_run.proofs.lines.run_line.Tie as tie
-
-abbrev At-After-make_call-outcome : Type 0
-At-After-make_call-outcome = lts.After-make_call tie.the-claims reads.Pre reads.Post tie.handed_clauses
-
-abbrev At-After-parse_line-read : Type 0
-At-After-parse_line-read = lts.After-parse_line tie.the-claims reads.Pre reads.Post tie.handed_clauses
+use Rattle.script_run.proofs.lines.run_line.Goals.{After-make_call-outcome, After-parse_line-read}
 
 -- What is known at each place, built on the place before.
 
-abbrev call : At-After-parse_line-read → Call
+abbrev call : After-parse_line-read → Call
 call c = call_by c.parse_line-read.result
 
-left : (c : At-After-make_call-outcome) → c.make_call-outcome.new.table ≡ table_after concur c.args.table.now (call c.before.before.before)
+left : (c : After-make_call-outcome) → c.make_call-outcome.new.table ≡ table_after concur c.args.table.now
+    (call (goal.at.After-make_call-outcome c).After-parse_line-read)
 left c = c.make_call-outcome.ensures.table_after
 
 -- The needs.
@@ -46,10 +39,12 @@ returns-then-kind-eq-MALFORMED-clause-step_held c =
 
 pub phase_of-requires : goal.phase_of-requires
 phase_of-requires c =
-    rw (left c.before.before.before) (whole_after c.args.table.now (call c.before.before.before.before.before.before) c.requires)
+    rw (left (goal.at.phase_of-requires c).After-make_call-outcome)
+    (whole_after c.args.table.now (call (goal.at.phase_of-requires c).After-parse_line-read) c.requires)
 
 pub returns-clause-table_after : goal.returns-clause-table_after
 returns-clause-table_after c =
+    let at_make_call_outcome = (goal.at.returns-clause-table_after c).After-make_call-outcome in
     let a = c.args in
     let r = c.parse_line-read.result in
     let n = c.if-kind-eq-MALFORMED.false in
@@ -57,11 +52,12 @@ returns-clause-table_after c =
     let m = c.make_call-outcome in
     let some : 0 < r.kind = omega arith in
     let shown =
-    call_shown a.table.now r (call c.before.before.before.before.before.before.before) m.result m.new.table c.phase_of.result some refl m.ensures.number_value m.ensures.result_value
-    (left c.before.before.before.before) c.phase_of.ensures in
+    call_shown a.table.now r (call (goal.at.returns-clause-table_after c).After-parse_line-read) m.result m.new.table
+    c.phase_of.result some refl m.ensures.number_value m.ensures.result_value
+    (left at_make_call_outcome) c.phase_of.ensures in
     let d : Done = record { line = r; outcome = m.result; phase = c.phase_of.result } in
     let held : StepHeld d (step_line concur a.table.now a.line.now).happened = rw e shown in
-    left c.before.before.before.before ∙ ap (λ s. s.table) (sym e)
+    left at_make_call_outcome ∙ ap (λ s. s.table) (sym e)
 
 pub returns-clause-step_held : goal.returns-clause-step_held
 returns-clause-step_held c =
@@ -72,8 +68,9 @@ returns-clause-step_held c =
     let m = c.make_call-outcome in
     let some : 0 < r.kind = omega arith in
     let shown =
-    call_shown a.table.now r (call c.before.before.before.before.before.before.before) m.result m.new.table c.phase_of.result some refl m.ensures.number_value m.ensures.result_value
-    (left c.before.before.before.before) c.phase_of.ensures in
+    call_shown a.table.now r (call (goal.at.returns-clause-step_held c).After-parse_line-read) m.result m.new.table
+    c.phase_of.result some refl m.ensures.number_value m.ensures.result_value
+    (left (goal.at.returns-clause-step_held c).After-make_call-outcome) c.phase_of.ensures in
     let d : Done = record { line = r; outcome = m.result; phase = c.phase_of.result } in
     let held : StepHeld d (step_line concur a.table.now a.line.now).happened = rw e shown in
     held
@@ -87,8 +84,9 @@ returns-clause-made c =
     let m = c.make_call-outcome in
     let some : 0 < r.kind = omega arith in
     let shown =
-    call_shown a.table.now r (call c.before.before.before.before.before.before.before) m.result m.new.table c.phase_of.result some refl m.ensures.number_value m.ensures.result_value
-    (left c.before.before.before.before) c.phase_of.ensures in
+    call_shown a.table.now r (call (goal.at.returns-clause-made c).After-parse_line-read) m.result m.new.table c.phase_of.result
+    some refl m.ensures.number_value m.ensures.result_value
+    (left (goal.at.returns-clause-made c).After-make_call-outcome) c.phase_of.ensures in
     let d : Done = record { line = r; outcome = m.result; phase = c.phase_of.result } in
     let held : StepHeld d (step_line concur a.table.now a.line.now).happened = rw e shown in
     line_made a.table.now a.line.now d c.requires held

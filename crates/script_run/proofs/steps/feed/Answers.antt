@@ -6,17 +6,12 @@ use lib.ListN.{length}
 use Rattle.script_run.specs.Feeding.{fed, printed_events}
 use Rattle.script_run.proofs.States.{fed_into_more}
 use Rattle.script_run.proofs.steps.feed.Goals as goal
-use Rattle.script_run.proofs.steps.feed.Lts as lts
-use Rattle.script_run.proofs.steps.feed.Reads as reads
-use Rattle.script_run.proofs.steps.feed.Tie as tie
-
-abbrev At-After-take_line-line : Type 0
-At-After-take_line-line = lts.After-take_line tie.the-claims reads.Pre reads.Post goal.the-invariant-loop-taken goal.the-decreases-loop-taken tie.handed_clauses
+use Rattle.script_run.proofs.steps.feed.Goals.{After-take_line-line}
 
 -- The places.
 
 -- What the line took is some of what was left.
-record Further (c : At-After-take_line-line) : Type 0 where
+record Further (c : After-take_line-line) : Type 0 where
   some : 0 < c.take_line-line.result.taken
   within : c.loop-taken.taken + c.take_line-line.result.taken ≤ length c.args.bytes.now
 

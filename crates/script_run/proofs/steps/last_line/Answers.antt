@@ -62,4 +62,5 @@ end_line-requires c =
 
 pub returns : goal.returns
 returns c =
-    rw (events c.before.before.before.before.before.before.before, not-false c.begun.result c.if-not-begun.false-raw) c.end_line.ensures.events
+    rw (events c.before.before.before.before.before.before.before, not-false c.begun.result c.if-not-begun.false-raw)
+    c.end_line.ensures.events

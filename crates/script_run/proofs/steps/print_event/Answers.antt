@@ -29,16 +29,19 @@ print_refused-requires c = refused_room c.before.before.before.before
 
 pub returns-then-kind-eq-REFUSED : goal.returns-then-kind-eq-REFUSED
 returns-then-kind-eq-REFUSED c l h =
-    rw (refused_shown c.args.event l h c.if-kind-eq-REFUSED.true) (wrote c.print_refused.ensures (refused_room c.before.before.before.before.before.before.before.before))
+    rw (refused_shown c.args.event l h c.if-kind-eq-REFUSED.true)
+    (wrote c.print_refused.ensures (refused_room c.before.before.before.before.before.before.before.before))
 
 pub print_board-requires : goal.print_board-requires
 print_board-requires c = board_room c.before.before.before.before.before
 
 pub returns-then-kind-eq-OPENED : goal.returns-then-kind-eq-OPENED
 returns-then-kind-eq-OPENED c l h =
-    rw (opened_shown c.args.event l h c.if-kind-eq-OPENED.true) (wrote c.print_board.ensures (board_room c.before.before.before.before.before.before.before.before.before))
+    rw (opened_shown c.args.event l h c.if-kind-eq-OPENED.true)
+    (wrote c.print_board.ensures (board_room c.before.before.before.before.before.before.before.before.before))
 
 pub returns : goal.returns
 returns c l h =
     let e = c.args.event in
-    rw (stepped_shown e l h c.if-kind-eq-NOTHING.false c.if-kind-eq-REFUSED.false c.if-kind-eq-OPENED.false) (c.print_step.ensures h.happened h.held)
+    rw (stepped_shown e l h c.if-kind-eq-NOTHING.false c.if-kind-eq-REFUSED.false c.if-kind-eq-OPENED.false)
+    (c.print_step.ensures h.happened h.held)

@@ -13,15 +13,16 @@ both c =
     both_lent c.requires c.block_at-at.ensures c.block_size.ensures c.host_at-host.ensures c.host_size.ensures
 
 pub commit_of-sent-requires : goal.commit_of-sent-requires
-commit_of-sent-requires c = both_running (both c.before)
+commit_of-sent-requires c = both_running (both (goal.at.commit_of-sent-requires c).After-host_size)
 
 pub commit-won-requires : goal.commit-won-requires
 unfolding record_in sent_record
-commit-won-requires c = slot_of (both c.before.before.before) (ap (λ r. r.slot) c.commit_of-sent.ensures)
+commit-won-requires c = slot_of (both (goal.at.commit-won-requires c).After-host_size) (ap (λ r. r.slot) c.commit_of-sent.ensures)
 
 pub returns : goal.returns
 unfolding record_in
 returns c =
     let post = c.commit-won.ensures in
-    commit-left (both c.before.before.before.before.before.before.before.before.before.before.before) c.commit-won.new.entries c.commit-won.auto.entries c.judge.new.block c.judge.auto.block _ _ _
+    commit-left (both (goal.at.returns c).After-host_size) c.commit-won.new.entries c.commit-won.auto.entries c.judge.new.block
+    c.judge.auto.block _ _ _
     c.commit_of-sent.ensures refl post.value post.entries_after post.entries_after_2 c.judge.ensures

@@ -14,40 +14,41 @@ board s = board_of s.args.n (words s.args.table.now)
 pub returns-then-phase-eq1-clause-taken : goal.returns-then-phase-eq1-clause-taken
 returns-then-phase-eq1-clause-taken c =
     let e = sym c.requires.1 ∙ c.if-phase-eq1.true in
-    none_taken c.args.n (board c.before.before.before.before.before.before.before.before) _ _ e refl c.nothing.ensures
+    none_taken c.args.n (board (goal.at.returns-then-phase-eq1-clause-taken c).Start) _ _ e refl c.nothing.ensures
 
 pub returns-then-phase-eq1-clause-left : goal.returns-then-phase-eq1-clause-left
 returns-then-phase-eq1-clause-left c =
     let e = sym c.requires.1 ∙ c.if-phase-eq1.true in
-    rw (board_phase _ (board c.before.before.before.before.before.before.before.before) _ 1 e) c.submit_taken.ensures
+    rw (board_phase _ (board (goal.at.returns-then-phase-eq1-clause-left c).Start) _ 1 e) c.submit_taken.ensures
 
 pub returns-then-phase-eq2-clause-taken : goal.returns-then-phase-eq2-clause-taken
 returns-then-phase-eq2-clause-taken c =
     let e = sym c.requires.1 ∙ c.if-phase-eq2.true in
-    none_taken c.args.n (board c.before.before.before.before.before.before.before.before.before) _ _ e refl c.nothing-then-phase-eq2.ensures
+    none_taken c.args.n (board (goal.at.returns-then-phase-eq2-clause-taken c).Start) _ _ e refl c.nothing-then-phase-eq2.ensures
 
 pub returns-then-phase-eq2-clause-left : goal.returns-then-phase-eq2-clause-left
 returns-then-phase-eq2-clause-left c =
     let e = sym c.requires.1 ∙ c.if-phase-eq2.true in
-    rw (board_phase _ (board c.before.before.before.before.before.before.before.before.before) _ 2 e) c.reply_taken.ensures
+    rw (board_phase _ (board (goal.at.returns-then-phase-eq2-clause-left c).Start) _ 2 e) c.reply_taken.ensures
 
 pub returns-then-phase-eq3-clause-taken : goal.returns-then-phase-eq3-clause-taken
 returns-then-phase-eq3-clause-taken c =
     let e = sym c.requires.1 ∙ c.if-phase-eq3.true in
-    none_taken c.args.n (board c.before.before.before.before.before.before.before.before.before.before) _ _ e refl c.nothing-then-phase-eq3.ensures
+    none_taken c.args.n (board (goal.at.returns-then-phase-eq3-clause-taken c).Start) _ _ e refl c.nothing-then-phase-eq3.ensures
 
 pub returns-then-phase-eq3-clause-left : goal.returns-then-phase-eq3-clause-left
 returns-then-phase-eq3-clause-left c =
     let e = sym c.requires.1 ∙ c.if-phase-eq3.true in
-    rw (board_phase _ (board c.before.before.before.before.before.before.before.before.before.before) _ 3 e) c.commit_taken.ensures
+    rw (board_phase _ (board (goal.at.returns-then-phase-eq3-clause-left c).Start) _ 3 e) c.commit_taken.ensures
 
 pub returns-clause-taken : goal.returns-clause-taken
 returns-clause-taken c =
     let e = sym c.requires.1 in
-    rw (← last_returned c.args.n (board c.before.before.before.before.before.before.before.before.before) c.args.member _ e) c.outcome_taken.ensures.taken
+    rw (← last_returned c.args.n (board (goal.at.returns-clause-taken c).Start) c.args.member _ e) c.outcome_taken.ensures.taken
 
 pub returns-clause-left : goal.returns-clause-left
 returns-clause-left c =
     let e = sym c.requires.1 in
-    rw (← last_phase c.args.n (board c.before.before.before.before.before.before.before.before.before) c.args.member _ e c.if-phase-eq1.false c.if-phase-eq2.false c.if-phase-eq3.false)
+    rw (← last_phase c.args.n (board (goal.at.returns-clause-left c).Start) c.args.member _ e c.if-phase-eq1.false
+    c.if-phase-eq2.false c.if-phase-eq3.false)
     c.outcome_taken.ensures.left

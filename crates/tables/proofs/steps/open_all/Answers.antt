@@ -26,5 +26,5 @@ bounds-table-0 c =
 pub returns : goal.returns
 returns c =
     open-left c.args.n c.args.table.now c.requires.0 c.requires.1.0 c.requires.1.1 c.clear.new.t c.clear.auto.t
-    c.host_at-host.ensures.begins c.clear.ensures (lent c.before.before.before.before.before.before.before)
+    c.host_at-host.ensures.begins c.clear.ensures (lent (goal.at.returns c).After-clear)
     c.open.new.entries c.open.auto.entries c.open.ensures.entries_after c.open.ensures.entries_after_2

@@ -33,4 +33,4 @@ returns-clause-records_after c =
     let a = c.args in
     let done = c.take_submit-reply.ensures in
     let reply = replied a.n a.entries.now a.member a.slot a.operation done.number_value done.newest_after done.stored_value in
-    calls _ _ e _ _ (c.IsStore-both.ensures ∙ reply)
+    calls _ _ e _ _ (c.store_both.ensures ∙ reply)

@@ -7,4 +7,4 @@ use Rattle.test_calls.proofs.timed.concur_bench_read.Goals as goal
 
 pub returns : goal.returns
 unfolding both_counts fields_in record_in
-returns c = c.wrapping_add_u32.ensures ∙ ap both_counts c.read-message.ensures.1
+returns c = c.wrapping_add_u32.ensures.value ∙ ap both_counts c.read-message.ensures.1

@@ -1,5 +1,5 @@
 -- `concur_bench_write` meets its contract: a message written over itself changes nothing.
-use Rattle.std.proofs.Common.{◌≡◌, ℕ, ◌-◌, List, ◌++◌, length, drop, sym, refl, ap, ◌∙◌, drop_at}
+use Rattle.std.proofs.Common.{◌≡◌, ℕ, List, ◌++◌, length, drop, sym, refl, ap, ◌∙◌, drop_at}
 use mathlib.Core.Option.{Option, none, some}
 use Rattle.model.specs.Messages.{Message, encode, writable, written_to}
 use Rattle.messages.specs.Meaning.{fields_in, message_of}
@@ -28,4 +28,4 @@ pub loop-i-preserved : goal.loop-i-preserved
 loop-i-preserved c =
     let a = c.args in
     again a.n (message_of (fields_in c.read-message.result)) a.out.now _ _ _
-    c.write-written.auto.0 c.write-written.ensures.out_after c.loop-i.invariant c.write.ensures.out_after
+    c.write-written.auto.out c.write-written.ensures.out_after c.loop-i.invariant c.write.ensures.out_after

@@ -5,4 +5,4 @@ use Rattle.test_calls.proofs.words.store_fields.Goals as goal
 
 pub returns : goal.returns
 returns c =
-    c.IsStore-both.ensures ∙ fields_stored c.args.t.now c.args.message c.requires
+    c.store_both.ensures ∙ fields_stored c.args.t.now c.args.message c.requires

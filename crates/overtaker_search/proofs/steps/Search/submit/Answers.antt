@@ -24,41 +24,45 @@ slot s =
     let long : length s.args.self.slots ≡ 12 = search rules in
     number_read s.args.self.slots 12 long s.args.by s.requires
 
-follows : (c : Else-not-counts) → (held c.before.before.before).follows ≡ true
+follows : (c : Else-not-counts) → (held (goal.at.Else-not-counts c).Start).follows ≡ true
 unfolding search_of
 follows c = not-false c.args.self.follows c.if-not-counts.false-raw
 
 -- the submit is on the operation's slot
-same : (c : Else-slot-self) → (held c.before.before.before.before).slots c.args.by ≡ (held c.before.before.before.before).slot
+same : (c : Else-slot-self) → let start = (goal.at.Else-slot-self c).Start in
+    (held start).slots c.args.by ≡ (held start).slot
 unfolding search_of
-same c = sym (slot c.before.before.before.before) ∙ search rules
+same c = sym (slot (goal.at.Else-slot-self c).Start) ∙ search rules
 
 -- The needs.
 
 pub returns-then-by-member : goal.returns-then-by-member
 unfolding search_of search_own
 returns-then-by-member c =
-    rw (slot c.before.before) (sym (submit_own c.args.member c.args.ordinal (held c.before.before) c.args.by c.if-by-member.true))
+    let start = (goal.at.returns-then-by-member c).Start in
+    rw (slot start) (sym (submit_own c.args.member c.args.ordinal (held start) c.args.by c.if-by-member.true))
 
 pub returns-then-not-counts : goal.returns-then-not-counts
 unfolding search_of
 returns-then-not-counts c =
-    sym (submit-idle c.args.member c.args.ordinal (held c.before.before.before) c.args.by c.if-by-member.false
+    sym (submit-idle c.args.member c.args.ordinal (held (goal.at.returns-then-not-counts c).Start) c.args.by c.if-by-member.false
     (not-true c.args.self.follows c.if-not-counts.true-raw))
 
 pub returns-then-slot-self : goal.returns-then-slot-self
 unfolding search_of
 returns-then-slot-self c =
-    sym (submit-elsewhere c.args.member c.args.ordinal (held c.before.before.before.before) c.args.by c.if-by-member.false
-    (λ e. c.if-slot-self.true (slot c.before.before.before.before ∙ e)))
+    let start = (goal.at.returns-then-slot-self c).Start in
+    sym (submit-elsewhere c.args.member c.args.ordinal (held start) c.args.by c.if-by-member.false
+    (λ e. c.if-slot-self.true (slot start ∙ e)))
 
 pub returns-then-self-eq0 : goal.returns-then-self-eq0
 unfolding search_of
 returns-then-self-eq0 c =
-    sym (submit-later c.args.member c.args.ordinal (held c.before.before.before.before.before) c.args.by c.if-by-member.false c.if-self-eq0.true)
+    sym (submit-later c.args.member c.args.ordinal (held (goal.at.returns-then-self-eq0 c).Start) c.args.by c.if-by-member.false
+    c.if-self-eq0.true)
 
 pub returns : goal.returns
 unfolding search_of held_overtaker
 returns c =
-    sym (submit-first c.args.member c.args.ordinal (held c.before.before.before.before.before) c.args.by c.if-by-member.false
-    (follows c.before.before) (same c.before) c.if-self-eq0.false)
+    sym (submit-first c.args.member c.args.ordinal (held (goal.at.returns c).Start) c.args.by c.if-by-member.false
+    (follows (goal.at.returns c).Else-not-counts) (same (goal.at.returns c).Else-slot-self) c.if-self-eq0.false)
