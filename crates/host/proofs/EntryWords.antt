@@ -82,7 +82,7 @@ module _ (n : ℕ) (l : List ℕ) (r : Rec) (long : length l ≡ entry_size n) w
   length-renewed = length-replaced l (newest_at n) (record_words n r) fits ∙ long
 
   pub entry_renewed : entry_of n (words renewed) ≡ record
-    { submit_member = words l 0; submit_count = words l 1; newest = record_within n r }
+      { submit_member = words l 0; submit_count = words l 1; newest = record_within n r }
   unfolding entry_of
   entry_renewed = rw (
     before_replaced l (newest_at n) (record_words n r) 0 fits (omega (arith, (sizes n).newest)),

@@ -418,12 +418,12 @@ by_kind k a b c d other =
 
 module _ (n : ℕ) (b : ℕ → ℕ) where
   pub from_submit : b 3 ≡ 1 → message_from n b ≡ submit (b fields_at) (b (fields_at + 1)) (b (fields_at + 2))
-    (number_of (from b (fields_at + 3)))
+      (number_of (from b (fields_at + 3)))
   unfolding message_from
   from_submit e = rw e
 
   pub from_reply : b 3 ≡ 2 → message_from n b ≡ reply (record_from n (from b record_at))
-    (record_from n (from b (record_at + record_length n)))
+      (record_from n (from b (record_at + record_length n)))
   unfolding message_from
   from_reply e = rw e
 
@@ -463,9 +463,13 @@ module _ (n : ℕ) (b : ℕ → ℕ) where
 
   pub judged_reply : b 3 ≡ 2 → b fields_at ≡ n → judged n b ≡ (fit_at n b record_at && fit_at n b (record_at + record_length n))
   unfolding right_n fit_message
-  judged_reply e d = rw
-    (from_reply n b e, e, eq-eqb (b fields_at) n d, fit_record_lem n b record_at,
-    fit_record_lem n b (record_at + record_length n))
+  judged_reply e d = rw (
+    from_reply n b e,
+    e,
+    eq-eqb (b fields_at) n d,
+    fit_record_lem n b record_at,
+    fit_record_lem n b (record_at + record_length n),
+  )
 
   pub judged_misnamed : 1 < b 3 → b 3 < 4 → (b fields_at ≡ n → ⊥) → judged n b ≡ false
   unfolding right_n

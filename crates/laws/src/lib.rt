@@ -1,1 +1,3 @@
+#![tactic(auto)]
+
 // Laws alone, proved once about the definitions of `model`: see proofs/.

@@ -169,8 +169,15 @@ pub sent_built : (n i : ℕ) (w : ℕ → ℕ) (value : List ℕ) (matrix : List
     → value_of (words value) ≡ value_of (from w (places.first + value_at))
     → matrix_in matrix ≡ matrix_of n (from w (places.first + matrix_at))
     → record_in
-    (record { member = i; slot = w slot_at; operation = w operation_at; count = w
-    (own_at + w slot_at - 1); value = value; matrix = matrix })
+    (record {
+      member = i;
+      slot = w slot_at;
+      operation = w operation_at;
+      count = w
+          (own_at + w slot_at - 1);
+      value = value;
+      matrix = matrix;
+    })
     ≡ sent_record i (member_of n w)
 unfolding record_in sent_record member_of
 sent_built n i w value matrix lay b e f = λ t. record {

@@ -157,7 +157,7 @@ module _ (kind : Kind) where
   unfolding run boards
   run-checked inv [] = tt
   run-checked {n} {b} {ref} inv (call ∷ calls) =
-    (checked-at inv call, run-checked {n = n} {b = after kind n b call} {ref = ref_after kind n ref call} (step_keeps inv call) calls)
+      (checked-at inv call, run-checked {n = n} {b = after kind n b call} {ref = ref_after kind n ref call} (step_keeps inv call) calls)
 
 -- For every kind of board, every n and every list of calls.
 pub as_reference_lem : (kind : Kind) (n : ℕ) (calls : List Call) → run kind n (opened n) calls ≡ ref_run kind n ref_opened calls

@@ -11,7 +11,6 @@ use lib.Seq.{drop-append-le}
 use borrow.Author.Tests.{eq-eqb, ne_eqb, ltb-true, ltb-false}
 use Rattle.lists.specs.Pieces.{laid}
 use Rattle.lists.proofs.Functions.{on}
-use Rattle.model.specs.Records.{read, write}
 use Rattle.model.specs.Kinds.{Kind}
 use Rattle.model.specs.Board.{Board}
 use Rattle.model.specs.Runs.{Call, Seen}

@@ -8,7 +8,7 @@ use mathlib.Core.List.{List, ◌∷◌}
 use lib.Dec.{eqb}
 use borrow.Author.Tests.{eqb-true, eqb-false, eq-eqb, ne_eqb}
 use Rattle.lists.specs.Functions.{put}
-use Rattle.lists.proofs.Functions.{on, first, second, apart, put_at, put_off, put_same, put_all, put_both, inside_low}
+use Rattle.lists.proofs.Functions.{on, first, apart, put_at, put_off, put_same, put_all, put_both, inside_low}
 use Rattle.model.specs.Rows.{Row}
 use Rattle.model.specs.Records.{Value, Rec, write}
 use Rattle.model.specs.Kinds.{becomes_stored}

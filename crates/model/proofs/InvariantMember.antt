@@ -24,7 +24,6 @@ use Rattle.model.proofs.Rows.{larger_either}
 use Rattle.model.proofs.Order.{◌≼◌, Ordered, ≼_raised, ≼-matrix_below, ordered_comparable, larger_above}
 use Rattle.model.proofs.Answers.{BeginTaken}
 use Rattle.model.proofs.Invariant.{Tops, count_on, shown, marked, Replied, Current, Committed, Extends, Accepted, MemberInv, Inv}
-use Rattle.model.specs.Member
 
 -- One member touched, with the counts that the tops have for it and the value that it shows kept.
 pub touched : {n : ℕ} {b : Board} {ref : Reference} (inv : Inv n b ref) (i : ℕ) (m : Member) (f : RefMember)

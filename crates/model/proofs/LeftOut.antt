@@ -1,6 +1,6 @@
 -- Leaving out another's step moves neither which begins of a member are answered 0 nor at which of its lines its verdicts fall: from what
 -- stays the same at each step (OwnCalls.antt).
-use Prim.Native.Nat.{ℕ, zero, suc, ◌+◌, ◌-◌, ◌<◌}
+use Prim.Native.Nat.{ℕ, zero, suc, ◌+◌, ◌<◌}
 use mathlib.Core.Path.{◌≡◌, refl, sym, ap, subst, ◌∙◌}
 use mathlib.Core.Bool.{Bool, false, cond, ◌&&◌, ◌||◌}
 use mathlib.Core.List.{List}

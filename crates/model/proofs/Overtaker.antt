@@ -1,6 +1,6 @@
 -- Both answers about an overtaker hold: a submit is named exactly for an operation that was aborted, and it is the first that was taken
 -- on its slot in between. From demand 3's claims: an aborted operation is a contested one, and the watcher's positions are the steps.
-use Prim.Native.Nat.{ℕ, ◌+◌, ◌-◌, ◌≤◌, ◌<◌}
+use Prim.Native.Nat.{ℕ, ◌+◌, ◌≤◌, ◌<◌}
 use mathlib.Core.Path.{◌≡◌, refl, sym, ap, subst, ◌∙◌}
 use mathlib.Core.Bool.{true, false, cond, not, ◌&&◌, ◌||◌}
 use mathlib.Core.List.{List, [], ◌∷◌}

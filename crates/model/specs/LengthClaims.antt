@@ -20,4 +20,4 @@ pub record LengthsAsPublished : Type 0 where
   pub outcome : (n : ℕ) → length_of 4 n ≡ 3
   -- the whole table at once
   pub table : listed 12 (length_of 1) ++ (listed 12 (length_of 2) ++ (listed 12 (length_of 3) ++ listed 12 (length_of 4)))
-    ≡ published_lengths
+      ≡ published_lengths

@@ -1,1 +1,3 @@
+#![tactic(auto)]
+
 // Definitions alone, the ones that every contract cites: see specs/.

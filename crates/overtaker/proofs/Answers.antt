@@ -71,7 +71,7 @@ module _ {A : Type 0} (otherwise : A) (answer : ℕ → ℕ → A) where
   none-for (some a) f = absurd (apart refl f)
 
   some-for : (a : Option Asked) → (held_asked a).ok ≡ true → for_asked otherwise answer a ≡ answer (held_asked a).member
-    (held_asked a).ordinal
+      (held_asked a).ordinal
   unfolding held_asked for_asked
   some-for none f = absurd (apart f refl)
   some-for (some a) f = refl

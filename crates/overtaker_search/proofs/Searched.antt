@@ -167,7 +167,7 @@ module _ (i k : ℕ) where
       }
 
       agrees-submits : p j ≡ 1 → Agrees (put p j 2) (with_running w j (taken_op w j) (with_submit w j))
-      (search_submit i k (search_next s) j)
+          (search_submit i k (search_next s) j)
       unfolding search_submit
       agrees-submits one = on (eqb j i)
           (λ e. rw e (agrees-own one (eqb-true j i e)))

@@ -1,1 +1,3 @@
+#![tactic(auto)]
+
 // Definitions alone: scripts and what the programs print of them, by hand, and that each holds. See specs/ and proofs/.

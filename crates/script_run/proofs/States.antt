@@ -58,7 +58,7 @@ module _ (p : Progress) (table kept : List ℕ) where
   line_step h = rw (ne_eqb p.step 0 h)
 
   pub byte_ends : (b : ℕ) → p.step ≤ most_steps → b ≡ 10 → byte_fed concur (state_of p table kept) b ≡ line_run concur
-    (state_of p table kept)
+      (state_of p table kept)
   unfolding byte_fed state_of
   byte_ends b h e = rw (le-ltb most_steps p.step h, eq-eqb b 10 e)
 

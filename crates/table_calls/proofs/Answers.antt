@@ -68,7 +68,7 @@ Handed n l call r exit =
 
 module _ (n : ℕ) (l : List ℕ) (call : Call) (r : Outcome) where
   pub hands_none : {k : ℕ} → Table n l → k ≡ answer_of concur n (board_of n (words l)) call → (k ≡ 0 → ⊥) → Nothing r k
-    → Handed n l call r l
+      → Handed n l call r l
   hands_none {k} t e ne h = (
     rw h.0 (refuses concur n l call k t e ne),
     (rw (← e, ne_eqb k 0 ne) h.1.0, λ _. h.1.1),

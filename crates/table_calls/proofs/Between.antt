@@ -53,7 +53,7 @@ module _ (n : ℕ) (w : ℕ → ℕ) where
       ap (record_within n) e ∙ within_read n (from (from w (entry_at n r)) stored_at) ∙ sym e
 
   pub sent_within : (i : ℕ) → Within n i → record_within n (sent_record i ((board_of n w).members i)) ≡ sent_record i
-    ((board_of n w).members i)
+      ((board_of n w).members i)
   sent_within i h =
       let e = member_at n w i h.least h.most in
       ap (λ m. record_within n (sent_record i m)) e ∙ sent_read n i (from w (block_at n i)) ∙ sym (ap (sent_record i) e)

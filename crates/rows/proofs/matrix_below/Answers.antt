@@ -53,7 +53,7 @@ loop-j-preserved c =
       (
         search rules,
         walks-on (test a.n a.a a.b) (cost a.n) 12 c.loop-j.invariant.1.1
-        (tested (goal.at.loop-j-preserved c).After-equal_or_below) e (omega (arith, e))
+            (tested (goal.at.loop-j-preserved c).After-equal_or_below) e (omega (arith, e))
             c.if-not-equal_or_below.false-raw,
       ),
     )

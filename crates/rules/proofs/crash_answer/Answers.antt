@@ -25,9 +25,11 @@ returns-then-crashed-ne0 c = rw (member (goal.at.returns-then-crashed-ne0 c).Els
 
 pub returns-then-phase-eq6 : goal.returns-then-phase-eq6
 unfolding crash_answer
-returns-then-phase-eq6 c = rw
-    (member (goal.at.returns-then-phase-eq6 c).Else-not-is_numbered, up (goal.at.returns-then-phase-eq6 c).Else-crashed-ne0,
-    eq-eqb _ 6 c.if-phase-eq6.true)
+returns-then-phase-eq6 c = rw (
+  member (goal.at.returns-then-phase-eq6 c).Else-not-is_numbered,
+  up (goal.at.returns-then-phase-eq6 c).Else-crashed-ne0,
+  eq-eqb _ 6 c.if-phase-eq6.true,
+)
 
 pub returns : goal.returns
 unfolding crash_answer

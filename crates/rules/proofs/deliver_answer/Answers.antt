@@ -36,9 +36,11 @@ returns-then-phase-eq0 c = rw (member (goal.at.returns-then-phase-eq0 c).Else-no
 
 pub returns-then-phase-eq6 : goal.returns-then-phase-eq6
 unfolding deliver_answer
-returns-then-phase-eq6 c = rw
-    (member (goal.at.returns-then-phase-eq6 c).Else-not-is_numbered, ne_eqb _ 0 c.if-phase-eq0.false,
-    eq-eqb _ 6 c.if-phase-eq6.true)
+returns-then-phase-eq6 c = rw (
+  member (goal.at.returns-then-phase-eq6 c).Else-not-is_numbered,
+  ne_eqb _ 0 c.if-phase-eq0.false,
+  eq-eqb _ 6 c.if-phase-eq6.true,
+)
 
 pub returns-then-crashed-eq0 : goal.returns-then-crashed-eq0
 unfolding deliver_answer
@@ -54,21 +56,41 @@ pub returns-then-phase-eq4 : goal.returns-then-phase-eq4
 unfolding deliver_answer
 returns-then-phase-eq4 c =
     let r = runs (goal.at.returns-then-phase-eq4 c).Else-phase-eq6 in
-    rw (r.0, r.1, r.2, down (goal.at.returns-then-phase-eq4 c).Else-crashed-eq0, ne_eqb _ 2 c.if-phase-eq2.false,
-    eq-eqb _ 4 c.if-phase-eq4.true)
+    rw (
+      r.0,
+      r.1,
+      r.2,
+      down (goal.at.returns-then-phase-eq4 c).Else-crashed-eq0,
+      ne_eqb _ 2 c.if-phase-eq2.false,
+      eq-eqb _ 4 c.if-phase-eq4.true,
+    )
 
 pub returns-then-phase-eq5 : goal.returns-then-phase-eq5
 unfolding deliver_answer
 returns-then-phase-eq5 c =
     let else_phase_eq4 = (goal.at.returns-then-phase-eq5 c).Else-phase-eq4 in
     let r = runs (goal.at.returns-then-phase-eq5 c).Else-phase-eq6 in
-    rw (r.0, r.1, r.2, down (goal.at.returns-then-phase-eq5 c).Else-crashed-eq0, (off else_phase_eq4).0, (off else_phase_eq4).1,
-    eq-eqb _ 5 c.if-phase-eq5.true)
+    rw (
+      r.0,
+      r.1,
+      r.2,
+      down (goal.at.returns-then-phase-eq5 c).Else-crashed-eq0,
+      (off else_phase_eq4).0,
+      (off else_phase_eq4).1,
+      eq-eqb _ 5 c.if-phase-eq5.true,
+    )
 
 pub returns : goal.returns
 unfolding deliver_answer
 returns c =
     let else_phase_eq4 = (goal.at.returns c).Else-phase-eq4 in
     let r = runs (goal.at.returns c).Else-phase-eq6 in
-    rw (r.0, r.1, r.2, down (goal.at.returns c).Else-crashed-eq0, (off else_phase_eq4).0, (off else_phase_eq4).1,
-    ne_eqb _ 5 c.if-phase-eq5.false)
+    rw (
+      r.0,
+      r.1,
+      r.2,
+      down (goal.at.returns c).Else-crashed-eq0,
+      (off else_phase_eq4).0,
+      (off else_phase_eq4).1,
+      ne_eqb _ 5 c.if-phase-eq5.false,
+    )

@@ -27,26 +27,35 @@ returns-then-not-is_numbered c = rw (refused c.is_numbered.ensures c.if-not-is_n
 
 pub returns-then-not-is_numbered-2 : goal.returns-then-not-is_numbered-2
 unfolding fields_number
-returns-then-not-is_numbered-2 c = rw
-    (member (goal.at.returns-then-not-is_numbered-2 c).Else-not-is_numbered,
-    refused c.is_numbered-2.ensures c.if-not-is_numbered-2.true-raw)
+returns-then-not-is_numbered-2 c = rw (
+  member (goal.at.returns-then-not-is_numbered-2 c).Else-not-is_numbered,
+  refused c.is_numbered-2.ensures c.if-not-is_numbered-2.true-raw,
+)
 
 pub returns-then-not-is_operation : goal.returns-then-not-is_operation
 unfolding fields_number
-returns-then-not-is_operation c = rw
-    (member (goal.at.returns-then-not-is_operation c).Else-not-is_numbered,
-    slot (goal.at.returns-then-not-is_operation c).Else-not-is_numbered-2,
-    refused c.is_operation.ensures c.if-not-is_operation.true-raw)
+returns-then-not-is_operation c = rw (
+  member (goal.at.returns-then-not-is_operation c).Else-not-is_numbered,
+  slot (goal.at.returns-then-not-is_operation c).Else-not-is_numbered-2,
+  refused c.is_operation.ensures c.if-not-is_operation.true-raw,
+)
 
 pub returns-then-is_barred : goal.returns-then-is_barred
 unfolding fields_number
 returns-then-is_barred c =
-    rw (member (goal.at.returns-then-is_barred c).Else-not-is_numbered,
-    slot (goal.at.returns-then-is_barred c).Else-not-is_numbered-2,
-    operation (goal.at.returns-then-is_barred c).Else-not-is_operation, sym c.is_barred.ensures ∙ c.if-is_barred.true)
+    rw (
+      member (goal.at.returns-then-is_barred c).Else-not-is_numbered,
+      slot (goal.at.returns-then-is_barred c).Else-not-is_numbered-2,
+      operation (goal.at.returns-then-is_barred c).Else-not-is_operation,
+      sym c.is_barred.ensures ∙ c.if-is_barred.true,
+    )
 
 pub returns : goal.returns
 unfolding fields_number
 returns c =
-    rw (member (goal.at.returns c).Else-not-is_numbered, slot (goal.at.returns c).Else-not-is_numbered-2,
-    operation (goal.at.returns c).Else-not-is_operation, sym c.is_barred.ensures ∙ c.if-is_barred.false)
+    rw (
+      member (goal.at.returns c).Else-not-is_numbered,
+      slot (goal.at.returns c).Else-not-is_numbered-2,
+      operation (goal.at.returns c).Else-not-is_operation,
+      sym c.is_barred.ensures ∙ c.if-is_barred.false,
+    )

@@ -85,7 +85,7 @@ loop-k-preserved c =
     let g = c.args in (
       search rules,
       walks-on (test_at (goal.at.loop-k-preserved c).At-loop-k) (otherwise g.member 1) 1 c.loop-k.invariant.1
-      (entry at_not_above_entry) c.not_above-entry.ensures.pairs_value (most at_not_above_entry) c.if-not-entry.false,
+          (entry at_not_above_entry) c.not_above-entry.ensures.pairs_value (most at_not_above_entry) c.if-not-entry.false,
     )
 
 pub returns-clause-passed_value : goal.returns-clause-passed_value

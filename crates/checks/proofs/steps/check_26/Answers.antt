@@ -76,7 +76,7 @@ loop-j-preserved c =
     let g = c.args in (
       search rules,
       walks-on (test_at (goal.at.loop-j-preserved c).At-loop-j) (otherwise g.slot g.n) 12 c.loop-j.invariant.1
-      (row at_in_order_row) (pairs at_in_order_row) (most at_in_order_row) c.if-not-row.false,
+          (row at_in_order_row) (pairs at_in_order_row) (most at_in_order_row) c.if-not-row.false,
     )
 
 pub returns-clause-passed_value : goal.returns-clause-passed_value

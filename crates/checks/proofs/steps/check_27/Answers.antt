@@ -69,7 +69,7 @@ loop-j-preserved c =
     let g = c.args in (
       search rules,
       walks-on (test_at (goal.at.loop-j-preserved c).At-loop-j) (otherwise g.slot 1) 1 c.loop-j.invariant.1
-      (entry at_not_above_count) c.not_above-count.ensures.pairs_value (most at_not_above_count) c.if-not-count.false,
+          (entry at_not_above_count) c.not_above-count.ensures.pairs_value (most at_not_above_count) c.if-not-count.false,
     )
 
 pub returns-clause-passed_value : goal.returns-clause-passed_value

@@ -30,8 +30,12 @@ few26 c =
 few27 : (c : After-check_27-entries) → c.check_27-entries.result.pairs ≤ 12
 few27 c =
     let a = c.args in
-    omega (arith, c.check_27-entries.ensures.pairs_value, most27 a.n a.member a.slot c.requires.1.1 (row_in a.accepted)
-    (matrix_in a.newest))
+    omega (
+      arith,
+      c.check_27-entries.ensures.pairs_value,
+      most27 a.n a.member a.slot c.requires.1.1 (row_in a.accepted)
+          (matrix_in a.newest),
+    )
 
 -- Each that passed.
 
@@ -49,8 +53,12 @@ returns-then-not-rows-clause-pairs_value c = omega (arith, c.check_25-below.ensu
 
 pub overflow_add-pairs-2 : goal.overflow_add-pairs-2
 overflow_add-pairs-2 c =
-    omega (arith, few25 (goal.at.overflow_add-pairs-2 c).After-check_25-below,
-    few26 (goal.at.overflow_add-pairs-2 c).After-check_26-rows, few27 (goal.at.overflow_add-pairs-2 c).After-check_27-entries)
+    omega (
+      arith,
+      few25 (goal.at.overflow_add-pairs-2 c).After-check_25-below,
+      few26 (goal.at.overflow_add-pairs-2 c).After-check_26-rows,
+      few27 (goal.at.overflow_add-pairs-2 c).After-check_27-entries,
+    )
 
 pub returns-then-not-entries-clause-pairs_value : goal.returns-then-not-entries-clause-pairs_value
 unfolding if_made

@@ -33,9 +33,11 @@ returns-then-not-sound_entry c = stops _ _ _ c.loop-passed-test.true
     (judged (goal.at.returns-then-not-sound_entry c).After-sound_entry) c.if-not-sound_entry.true-raw
 
 pub loop-passed-preserved : goal.loop-passed-preserved
-loop-passed-preserved c =
-    (search rules, goes_on c.args.n _ _ c.loop-passed.invariant.1
-    (judged (goal.at.loop-passed-preserved c).After-sound_entry) c.if-not-sound_entry.false-raw)
+loop-passed-preserved c = (
+  search rules,
+  goes_on c.args.n _ _ c.loop-passed.invariant.1
+      (judged (goal.at.loop-passed-preserved c).After-sound_entry) c.if-not-sound_entry.false-raw,
+)
 
 pub returns : goal.returns
 unfolding sound_host

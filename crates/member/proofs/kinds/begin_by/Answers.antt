@@ -29,4 +29,4 @@ returns-clause-block_after c =
     let before = c.args.block.now in
     let long = c.begin.auto.block ∙ (ready (goal.at.returns-clause-block_after c).Else-number-ne0).block.long in
     λ kind limit most. words_made _ before _ _
-    (taken (goal.at.returns-clause-block_after c).After-begin_number-number kind limit most) long c.begin.ensures
+    (taken (goal.at.returns-clause-block_after c).Else-number-ne0 kind limit most) long c.begin.ensures

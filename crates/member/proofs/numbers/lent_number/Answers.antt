@@ -28,9 +28,10 @@ block_size-size-requires c = inside_high 12 _ (size c)
 
 pub returns-then-block-size : goal.returns-then-block-size
 unfolding lent_number block_number
-returns-then-block-size c = rw
-    (size (goal.at.returns-then-block-size c).Else-not-is_numbered,
-    ne_eqb _ _ (λ e. c.if-block-size.true (e ∙ sym c.block_size-size.ensures)))
+returns-then-block-size c = rw (
+  size (goal.at.returns-then-block-size c).Else-not-is_numbered,
+  ne_eqb _ _ (λ e. c.if-block-size.true (e ∙ sym c.block_size-size.ensures)),
+)
 
 pub sound_block-requires : goal.sound_block-requires
 sound_block-requires c = whole c
@@ -38,12 +39,17 @@ sound_block-requires c = whole c
 pub returns-then-not-sound_block : goal.returns-then-not-sound_block
 unfolding lent_number block_number
 returns-then-not-sound_block c =
-    rw (size (goal.at.returns-then-not-sound_block c).Else-not-is_numbered,
-    eq-eqb _ _ (whole (goal.at.returns-then-not-sound_block c).Else-block-size).long,
-    refused c.sound_block.ensures c.if-not-sound_block.true-raw)
+    rw (
+      size (goal.at.returns-then-not-sound_block c).Else-not-is_numbered,
+      eq-eqb _ _ (whole (goal.at.returns-then-not-sound_block c).Else-block-size).long,
+      refused c.sound_block.ensures c.if-not-sound_block.true-raw,
+    )
 
 pub returns : goal.returns
 unfolding lent_number block_number
 returns c =
-    rw (size (goal.at.returns c).Else-not-is_numbered, eq-eqb _ _ (whole (goal.at.returns c).Else-block-size).long,
-    allowed c.sound_block.ensures c.if-not-sound_block.false-raw)
+    rw (
+      size (goal.at.returns c).Else-not-is_numbered,
+      eq-eqb _ _ (whole (goal.at.returns c).Else-block-size).long,
+      allowed c.sound_block.ensures c.if-not-sound_block.false-raw,
+    )

@@ -115,5 +115,8 @@ returns-clause-pairs_value c = (whole c).1
 -- the ceiling is far below 2³²
 pub overflow_add-pairs : goal.overflow_add-pairs
 overflow_add-pairs c =
-    omega (arith, few_pairs c.requires.0 c.requires.1.0 _ _ _ (whole c).1,
-    ceiling_small c.args.n (own_slot (goal.at.overflow_add-pairs c).After-load_row-accepted).0)
+    omega (
+      arith,
+      few_pairs c.requires.0 c.requires.1.0 _ _ _ (whole c).1,
+      ceiling_small c.args.n (own_slot (goal.at.overflow_add-pairs c).After-load_row-accepted).0,
+    )

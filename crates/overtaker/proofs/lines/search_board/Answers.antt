@@ -28,9 +28,11 @@ left c =
 -- The needs.
 
 pub search_lines-requires : goal.search_lines-requires
-search_lines-requires c =
-    (rw (left (goal.at.search_lines-requires c).After-open)
-    (whole_words c.args.n (opened c.args.n) c.requires.0.least c.requires.0.most), c.requires.1.1)
+search_lines-requires c = (
+  rw (left (goal.at.search_lines-requires c).After-open)
+      (whole_words c.args.n (opened c.args.n) c.requires.0.least c.requires.0.most),
+  c.requires.1.1,
+)
 
 pub returns : goal.returns
 returns c =
