@@ -1,4 +1,5 @@
-// The C interface: include/concur.h. A value stands in a slice of 8 words; what a deliver returns is written to one of 9.
+// What C calls: include/concur.h. The crate board_c exports these functions under their names. A value stands in a slice of 8 words; what a
+// deliver returns is written to one of 9.
 ghost use Rattle.std.specs.Prelude.{◌≡◌, length};
 ghost use Rattle.lists.specs.Parts.{words};
 ghost use Rattle.model.specs.Kinds.{concur, auction};
@@ -16,8 +17,7 @@ use table_calls::steps::deliver_on;
 use tables::check::table_number;
 use tables::steps::table_size;
 
-#[unsafe(no_mangle)]
-pub extern "C" fn concur_board_words(n: u32) -> u32
+pub fn concur_board_words(n: u32) -> u32
     ensures { result ≡ words_for n }
 {
     if !is_numbered(n, MOST_MEMBERS) {
@@ -26,16 +26,14 @@ pub extern "C" fn concur_board_words(n: u32) -> u32
     table_size(n as usize) as u32
 }
 
-#[unsafe(no_mangle)]
-pub extern "C" fn concur_board_open(table: &mut [u32], n: u32) -> u32
+pub fn concur_board_open(table: &mut [u32], n: u32) -> u32
     ensures value { result ≡ open_number concur n table.old }
     ensures table_after { table.new ≡ open_words concur n table.old }
 {
     open(table, n)
 }
 
-#[unsafe(no_mangle)]
-pub extern "C" fn concur_board_begin(
+pub fn concur_board_begin(
     table: &mut [u32],
     member: u32,
     slot: u32,
@@ -52,16 +50,14 @@ pub extern "C" fn concur_board_begin(
     begin_beside(table, LIMIT, MOST_MEMBERS, member, slot, operation, value)
 }
 
-#[unsafe(no_mangle)]
-pub extern "C" fn concur_auction_open(table: &mut [u32], n: u32) -> u32
+pub fn concur_auction_open(table: &mut [u32], n: u32) -> u32
     ensures value { result ≡ open_number auction n table.old }
     ensures table_after { table.new ≡ open_words auction n table.old }
 {
     auction::open(table, n)
 }
 
-#[unsafe(no_mangle)]
-pub extern "C" fn concur_auction_begin(
+pub fn concur_auction_begin(
     table: &mut [u32],
     member: u32,
     slot: u32,
@@ -86,8 +82,7 @@ pub extern "C" fn concur_auction_begin(
     )
 }
 
-#[unsafe(no_mangle)]
-pub extern "C" fn concur_board_deliver(table: &mut [u32], member: u32, returned: &mut [u32]) -> u32
+pub fn concur_board_deliver(table: &mut [u32], member: u32, returned: &mut [u32]) -> u32
     ensures value { result ≡ answer_beside concur (length returned.old) returned_size table.old (deliverCall member) }
     ensures table_after { table.new
         ≡ after_beside concur (length returned.old) returned_size table.old (deliverCall member) }
@@ -112,8 +107,7 @@ pub extern "C" fn concur_board_deliver(table: &mut [u32], member: u32, returned:
     0
 }
 
-#[unsafe(no_mangle)]
-pub extern "C" fn concur_board_crash(table: &mut [u32], member: u32) -> u32
+pub fn concur_board_crash(table: &mut [u32], member: u32) -> u32
     ensures value { result ≡ table_answer concur table.old (crashCall member) }
     ensures table_after { table.new ≡ table_after concur table.old (crashCall member) }
 {

@@ -12,7 +12,7 @@ ghost use Rattle.model.specs.TableCalls.{open_number, open_words, board_in, tabl
 ghost use Rattle.member_block.specs.Results.{returned_in};
 
 pub mod auction;
-mod interface;
+pub mod interface;
 mod kinds;
 pub mod steps;
 

@@ -90,8 +90,7 @@ pub fn write(message: Message, n: u32, out: &mut [u8]) -> Written
 }
 
 // 0 if the reader would take these bytes on a board of n, or the number that it would refuse them with. For C: include/concur.h.
-#[unsafe(no_mangle)]
-pub extern "C" fn concur_message_check(bytes: &[u8], n: u32) -> u32
+pub fn concur_message_check(bytes: &[u8], n: u32) -> u32
     ensures { result ≡ read_number n bytes.now }
 {
     reader_number(bytes, n)
