@@ -6,9 +6,9 @@ cd "$(dirname "$0")/.."
 out=$(mktemp -d)
 trap 'rm -rf "$out"' EXIT
 
-# archive CRATE [FOLDER]: proves the crate and leaves its archive in target/staticlib, here or in that folder.
+# archive NAME [FOLDER]: proves its crate and leaves the archive in target/staticlib, here or in that folder.
 archive() {
-    (cd "${2:-.}" && rt staticlib "$1") >"$out/proved" 2>&1 || { cat "$out/proved"; exit 1; }
+    (cd "${2:-.}" && bash tests/archives.sh "$1") >"$out/proved" 2>&1 || { cat "$out/proved"; exit 1; }
 }
 
 # timed PROGRAM ARCHIVE..: the program bench/PROGRAM.rs, linked with these archives. It is built twice: whether plain Rust copies a struct that
@@ -33,7 +33,7 @@ busy() {
 program() {
     local board=target/bin/concur_board steps start end
     if [ ! -x "$board" ]; then
-        echo "the board program is not timed: there is no $board (rt check concur_board)"
+        echo "the board program is not timed: there is no $board: bash tests/programs.sh concur_board"
         return
     fi
     busy >"$out/script"
@@ -67,7 +67,7 @@ built() {
     local program
     for program in "$@"; do
         [ -x "target/bin/$program" ] && continue
-        echo "not timed: $* (there is no target/bin/$program: rt check $program)"
+        echo "not timed: $* (there is no target/bin/$program: bash tests/programs.sh $program)"
         return 1
     done
 }
