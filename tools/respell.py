@@ -18,6 +18,10 @@ DECLARED = re.compile(r"^(?:unfoldable |abbrev |pub |private |  pub )*([^\s:(){}
 LIBRARY = {"length", "take", "drop", "map", "reverse", "append", "tabulate", "replicate", "set"}
 
 
+# What port.py took for names that the check makes.
+GARBLED = [("field_own", "own_at"), ("entry_IsPlace", "entry_place"), ("last_Line", "last_line")]
+
+
 def snake(word):
     return re.sub(r"(?<=[a-z0-9])([A-Z])", lambda m: "_" + m.group(1).lower(), word)
 
@@ -43,7 +47,7 @@ def names():
     defined, lemmas, words = set(), set(), set()
     for path in files("specs") + files("proofs"):
         walk = path.endswith("/Proof.antt")
-        for line in open(path, encoding="utf-8").read().replace("field_own", "own_at").split("\n"):
+        for line in open(path, encoding="utf-8").read().split("\n"):
             words.update(TOKEN.findall(code(line)))
             found = DECLARED.match(code(line))
             if found and not walk:
@@ -82,7 +86,8 @@ def respelled(text, turned, dashes):
 
 def turn(path, turned):
     text = open(path, encoding="utf-8").read()
-    text = text.replace("field_own", "own_at")
+    for garbled, name in GARBLED:
+        text = text.replace(garbled, name)
     if path.endswith(".antt"):
         out = []
         for line in text.split("\n"):
@@ -104,6 +109,7 @@ def turn(path, turned):
 
 
 def main():
+    # A first pass mends what was garbled and turns most; names that it makes camel are turned by the next.
     turned = mapping()
     back = collections.defaultdict(set)
     for a, b in turned.items():
@@ -117,7 +123,9 @@ def main():
         return
     paths = files("specs") + files("proofs") + glob.glob("crates/*/src/**/*.rt", recursive=True) + glob.glob("crates/*/must-fail/*.edit")
     paths += ["README.md"] + glob.glob("docs/*.md") + glob.glob("bench/*.md") + glob.glob("examples/*.md")
-    print(sum(turn(p, turned) for p in sorted(paths)), "files")
+    for _ in range(3):
+        turned = mapping()
+        print(sum(turn(p, turned) for p in sorted(paths)), "files")
 
 
 if __name__ == "__main__":
