@@ -7,6 +7,6 @@ cd "$(dirname "$0")/.."
 mkdir -p target/bin
 [ $# -gt 0 ] || set -- concur_board concur_overtaker concur_cause concur_bill
 for name in "$@"; do
-    (cd "crates/$name" && rt run </dev/null)
+    (cd "crates/$name" && rt run </dev/null >/dev/null)
     cp "crates/$name/out/$name" "target/bin/$name"
 done
