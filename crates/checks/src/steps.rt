@@ -213,7 +213,7 @@ pub fn slot_halt(
 }
 
 // 25, 26 and 27, in order: the stored matrix and the known one beside the newest.
-#[tactic(auto, unfolding(model::specs::Pairs::if_made), using(crate::proofs::Few::of25, crate::proofs::Few::of26, crate::proofs::Few::of27))]
+#[tactic(auto, unfolding(model::specs::Pairs::if_made), using(crate::proofs::Few::c25, crate::proofs::Few::c26, crate::proofs::Few::c27))]
 pub fn matrix_halt(
     known: [Row; 12],
     accepted: Row,
