@@ -1,10 +1,10 @@
 // The checks of a reply, on rows and matrices by value, in document 01's order, each with the pairs of counts that it compared; and the
 // matrix of the member's own record.
-ghost use Rattle.std.specs.Prelude.{◌≡◌, cond, not, ◌||◌, ◌+◌, ◌≤◌, min, eqb, leb};
+ghost use Rattle.std.specs.Prelude.{◌≡◌, cond, not, ◌||◌, ◌+◌, ◌≤◌, ◌<◌, min, eqb, leb};
 ghost use Rattle.model.specs.Rows.{comparable as comparableOf};
 ghost use Rattle.model.specs.Records.{matrix_within};
-ghost use Rattle.model.specs.Member.{check22, check23, check25, check26, check27, joined};
-ghost use Rattle.model.specs.Pairs.{pairs22, pairs23, pairs25, pairs26, pairs27, if_made};
+ghost use Rattle.model.specs.Member.{check22, check23, check25, check26, check27, entry22, row26, row27, joined};
+ghost use Rattle.model.specs.Pairs.{otherwise, pairs22, pairs23, pairs25, pairs26, pairs27, if_made};
 ghost use Rattle.rows.specs.Meaning.{row_in, matrix_in};
 ghost use Rattle.lists.specs.Functions.{Within};
 ghost use Rattle.checks.specs.Halts.{number_of};
@@ -64,30 +64,26 @@ fn in_order(skipped: bool, a: Row, b: Row, n: usize) -> Check
     }
 }
 
+// 22 at place k of the slot's row, from 0 on: the member's own, or the known count is not above the newest record's.
+#[tactic(auto, using(crate::proofs::Matrices::entry_22))]
+fn entry_22(known: [Row; 12], newest: [Row; 12], member: usize, slot: usize, k: usize) -> Check
+    requires { (Within 12 slot) × (k < 12) }
+    ensures passed_value { result.passed ≡ entry22 member slot (matrix_in known) (matrix_in newest) (k + 1) }
+    ensures pairs_value { result.pairs ≡ otherwise member 1 (k + 1) }
+{
+    let at = slot - 1;
+    let a = known[at];
+    let b = newest[at];
+    not_above(k + 1 == member, a.counts[k], b.counts[k])
+}
+
 // 22: in the slot's row, no other member's known count exceeds the newest record's.
 pub fn check_22(known: [Row; 12], newest: [Row; 12], n: usize, member: usize, slot: usize) -> Check
     requires { (n ≤ 12) × (Within n slot) }
     ensures passed_value { result.passed ≡ check22 n member slot (matrix_in known) (matrix_in newest) }
     ensures pairs_value { result.pairs ≡ pairs22 n member slot (matrix_in known) (matrix_in newest) }
 {
-    let at = slot - 1;
-    let a = known[at];
-    let b = newest[at];
-    let mut pairs = 0;
-    for k in 0..n {
-        let entry = not_above(k + 1 == member, a.counts[k], b.counts[k]);
-        pairs += entry.pairs;
-        if !entry.passed {
-            return Check {
-                passed: false,
-                pairs,
-            };
-        }
-    }
-    Check {
-        passed: true,
-        pairs,
-    }
+    Check::of_each(n, |k| entry_22(known, newest, member, slot, k))
 }
 
 // 23: the newest record's entry for the member is its accepted count.
@@ -119,27 +115,34 @@ pub fn check_25(stored: [Row; 12], newest: [Row; 12], n: usize, slot: usize) -> 
     }
 }
 
+// 26 at row j, from 0 on: the slot's own, or known and newest are comparable.
+#[tactic(auto, using(crate::proofs::Matrices::row_26))]
+fn row_26(known: [Row; 12], newest: [Row; 12], n: usize, slot: usize, j: usize) -> Check
+    requires { (n ≤ 12) × (j < 12) }
+    ensures passed_value { result.passed ≡ row26 n slot (matrix_in known) (matrix_in newest) (j + 1) }
+    ensures pairs_value { result.pairs ≡ otherwise slot n (j + 1) }
+{
+    in_order(j + 1 == slot, known[j], newest[j], n)
+}
+
 // 26: in every other row, known and newest are comparable.
 pub fn check_26(known: [Row; 12], newest: [Row; 12], n: usize, slot: usize) -> Check
     requires { n ≤ 12 }
     ensures passed_value { result.passed ≡ check26 n slot (matrix_in known) (matrix_in newest) }
     ensures pairs_value { result.pairs ≡ pairs26 n slot (matrix_in known) (matrix_in newest) }
 {
-    let mut pairs = 0;
-    for j in 0..n {
-        let row = in_order(j + 1 == slot, known[j], newest[j], n);
-        pairs += row.pairs;
-        if !row.passed {
-            return Check {
-                passed: false,
-                pairs,
-            };
-        }
-    }
-    Check {
-        passed: true,
-        pairs,
-    }
+    Check::of_each(n, |j| row_26(known, newest, n, slot, j))
+}
+
+// 27 at row j, from 0 on: the slot's own, or the newest record's count for the member is not above its accepted count there.
+#[tactic(auto, using(crate::proofs::Matrices::row_27))]
+fn row_27(accepted: Row, newest: [Row; 12], member: usize, slot: usize, j: usize) -> Check
+    requires { (Within 12 member) × (j < 12) }
+    ensures passed_value { result.passed ≡ row27 member slot (row_in accepted) (matrix_in newest) (j + 1) }
+    ensures pairs_value { result.pairs ≡ otherwise slot 1 (j + 1) }
+{
+    let row = newest[j];
+    not_above(j + 1 == slot, row.counts[member - 1], accepted.counts[j])
 }
 
 // 27: in every other row, the newest record's entry for the member is not above its accepted count there.
@@ -148,23 +151,7 @@ pub fn check_27(accepted: Row, newest: [Row; 12], n: usize, member: usize, slot:
     ensures passed_value { result.passed ≡ check27 n member slot (row_in accepted) (matrix_in newest) }
     ensures pairs_value { result.pairs ≡ pairs27 n member slot (row_in accepted) (matrix_in newest) }
 {
-    let at = member - 1;
-    let mut pairs = 0;
-    for j in 0..n {
-        let row = newest[j];
-        let count = not_above(j + 1 == slot, row.counts[at], accepted.counts[j]);
-        pairs += count.pairs;
-        if !count.passed {
-            return Check {
-                passed: false,
-                pairs,
-            };
-        }
-    }
-    Check {
-        passed: true,
-        pairs,
-    }
+    Check::of_each(n, |j| row_27(accepted, newest, member, slot, j))
 }
 
 // 22, 23 and 24, in order: the slot's row of the newest record, and whose record the stored one is.

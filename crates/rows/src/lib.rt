@@ -1,11 +1,13 @@
 // Timestamp rows and matrices by value: one entry replaced, and comparison over the first n entries.
 #![tactic(auto)]
 
-ghost use Rattle.std.specs.Prelude.{◌≡◌, true, cond, min};
+ghost use Rattle.std.specs.Prelude.{ℕ, ◌≡◌, ◌+◌, ◌≤◌, ◌<◌, true, cond, min};
 ghost use Rattle.model.specs.Rows.{is_equal, is_below, is_above, is_crossed};
 ghost use Rattle.model.specs.Rows.{compared, crossed, equal_or_below, larger as largerOf, matrix_below, with_count, zero_row};
-ghost use Rattle.model.specs.Pairs.{row_pairs25};
+ghost use Rattle.model.specs.Pairs.{row25, row_pairs25};
 ghost use Rattle.rows.specs.Meaning.{row_in, matrix_in, comparison_in};
+ghost use Rattle.rows.specs.Tested.{OfEach};
+ghost use Rattle.rows.specs.declared.Check.{Check as CheckStruct};
 
 // A row of a working copy: a count for each of twelve members, the unused ones zero.
 #[derive(Clone, Copy, Debug, PartialEq, Eq)]
@@ -45,6 +47,25 @@ impl Check {
             passed: true,
             pairs: 0,
         }
+    }
+
+    // The tests of the places 0 to n - 1 in turn, up to the first that fails, and the pairs of all that were looked at.
+    pub fn of_each<F: Fn(usize) -> Check>(n: usize, test: F) -> Check
+        requires callable { (k : ℕ) → k < n → F.pre test k }
+        requires few { (k : ℕ) (c : CheckStruct) → k < n → F.post test k c → c.pairs ≤ 12 }
+        requires most { n ≤ 12 }
+        ensures { OfEach n (F.post test) result }
+    {
+        let mut found = Check::skipped();
+        for k in 0..n {
+            let check = test(k);
+            found.pairs += check.pairs;
+            if !check.passed {
+                found.passed = false;
+                return found;
+            }
+        }
+        found
     }
 }
 
@@ -128,25 +149,25 @@ impl Row {
     }
 }
 
+// Is row j of a, from 0 on, below its fellow in b?
+#[tactic(auto, unfolding(model::specs::Pairs::row25), using(crate::proofs::Laws::answer_below, crate::proofs::Laws::row_at))]
+fn row_below(a: [Row; 12], b: [Row; 12], n: usize, j: usize) -> Check
+    requires { j < 12 }
+    ensures passed_value { result.passed ≡ row25 (min n 12) (matrix_in a) (matrix_in b) (j + 1) }
+    ensures pairs_value { result.pairs ≡ min n 12 }
+{
+    let row = a[j].compare(b[j], n);
+    let answer = row.answer;
+    Check {
+        passed: answer.equal_or_below(),
+        pairs: row.pairs,
+    }
+}
+
 // Is each row below the other matrix's? The row that is not is the last one looked at.
 pub fn matrix_below(a: [Row; 12], b: [Row; 12], n: usize) -> Check
     ensures passed_value { result.passed ≡ matrix_below (min n 12) (matrix_in a) (matrix_in b) }
     ensures pairs_value { result.pairs ≡ row_pairs25 (min n 12) (matrix_in a) (matrix_in b) }
 {
-    let mut pairs = 0;
-    for j in 0..n.min(12) {
-        let row = a[j].compare(b[j], n);
-        let answer = row.answer;
-        pairs += row.pairs;
-        if !answer.equal_or_below() {
-            return Check {
-                passed: false,
-                pairs,
-            };
-        }
-    }
-    Check {
-        passed: true,
-        pairs,
-    }
+    Check::of_each(n.min(12), |j| row_below(a, b, n, j))
 }
