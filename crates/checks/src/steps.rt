@@ -10,6 +10,7 @@ ghost use Rattle.lists.specs.Functions.{Within};
 ghost use Rattle.checks.specs.Halts.{number_of};
 
 use crate::halt::Halt;
+use rows::steps::test_each;
 use rows::{Check, Row, matrix_below};
 
 // What checks found: the first that failed, if any, and how many pairs of counts were compared until then.
@@ -83,7 +84,7 @@ pub fn check_22(known: [Row; 12], newest: [Row; 12], n: usize, member: usize, sl
     ensures passed_value { result.passed ≡ check22 n member slot (matrix_in known) (matrix_in newest) }
     ensures pairs_value { result.pairs ≡ pairs22 n member slot (matrix_in known) (matrix_in newest) }
 {
-    Check::of_each(n, |k| entry_22(known, newest, member, slot, k))
+    test_each(n, |k| entry_22(known, newest, member, slot, k))
 }
 
 // 23: the newest record's entry for the member is its accepted count.
@@ -131,7 +132,7 @@ pub fn check_26(known: [Row; 12], newest: [Row; 12], n: usize, slot: usize) -> C
     ensures passed_value { result.passed ≡ check26 n slot (matrix_in known) (matrix_in newest) }
     ensures pairs_value { result.pairs ≡ pairs26 n slot (matrix_in known) (matrix_in newest) }
 {
-    Check::of_each(n, |j| row_26(known, newest, n, slot, j))
+    test_each(n, |j| row_26(known, newest, n, slot, j))
 }
 
 // 27 at row j, from 0 on: the slot's own, or the newest record's count for the member is not above its accepted count there.
@@ -151,7 +152,7 @@ pub fn check_27(accepted: Row, newest: [Row; 12], n: usize, member: usize, slot:
     ensures passed_value { result.passed ≡ check27 n member slot (row_in accepted) (matrix_in newest) }
     ensures pairs_value { result.pairs ≡ pairs27 n member slot (row_in accepted) (matrix_in newest) }
 {
-    Check::of_each(n, |j| row_27(accepted, newest, member, slot, j))
+    test_each(n, |j| row_27(accepted, newest, member, slot, j))
 }
 
 // 22, 23 and 24, in order: the slot's row of the newest record, and whose record the stored one is.

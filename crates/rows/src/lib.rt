@@ -1,13 +1,15 @@
 // Timestamp rows and matrices by value: one entry replaced, and comparison over the first n entries.
 #![tactic(auto)]
 
-ghost use Rattle.std.specs.Prelude.{ℕ, ◌≡◌, ◌+◌, ◌≤◌, ◌<◌, true, cond, min};
+ghost use Rattle.std.specs.Prelude.{◌≡◌, ◌+◌, ◌<◌, true, cond, min};
 ghost use Rattle.model.specs.Rows.{is_equal, is_below, is_above, is_crossed};
 ghost use Rattle.model.specs.Rows.{compared, crossed, equal_or_below, larger as largerOf, matrix_below, with_count, zero_row};
 ghost use Rattle.model.specs.Pairs.{row25, row_pairs25};
 ghost use Rattle.rows.specs.Meaning.{row_in, matrix_in, comparison_in};
-ghost use Rattle.rows.specs.Tested.{OfEach};
-ghost use Rattle.rows.specs.declared.Check.{Check as CheckStruct};
+
+pub mod steps;
+
+use steps::test_each;
 
 // A row of a working copy: a count for each of twelve members, the unused ones zero.
 #[derive(Clone, Copy, Debug, PartialEq, Eq)]
@@ -47,25 +49,6 @@ impl Check {
             passed: true,
             pairs: 0,
         }
-    }
-
-    // The tests of the places 0 to n - 1 in turn, up to the first that fails, and the pairs of all that were looked at.
-    pub fn of_each<F: Fn(usize) -> Check>(n: usize, test: F) -> Check
-        requires callable { (k : ℕ) → k < n → F.pre test k }
-        requires few { (k : ℕ) (c : CheckStruct) → k < n → F.post test k c → c.pairs ≤ 12 }
-        requires most { n ≤ 12 }
-        ensures { OfEach n (F.post test) result }
-    {
-        let mut found = Check::skipped();
-        for k in 0..n {
-            let check = test(k);
-            found.pairs += check.pairs;
-            if !check.passed {
-                found.passed = false;
-                return found;
-            }
-        }
-        found
     }
 }
 
@@ -169,5 +152,5 @@ pub fn matrix_below(a: [Row; 12], b: [Row; 12], n: usize) -> Check
     ensures passed_value { result.passed ≡ matrix_below (min n 12) (matrix_in a) (matrix_in b) }
     ensures pairs_value { result.pairs ≡ row_pairs25 (min n 12) (matrix_in a) (matrix_in b) }
 {
-    Check::of_each(n.min(12), |j| row_below(a, b, n, j))
+    test_each(n.min(12), |j| row_below(a, b, n, j))
 }

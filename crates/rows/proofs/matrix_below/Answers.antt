@@ -11,6 +11,6 @@ unfolding matrix_below row_pairs25
 returns c =
     let a = c.args in
     let n = min a.n 12 in
-    let told = c.of_each.ensures (row25 n (matrix_in a.a) (matrix_in a.b)) (λ j. n) (λ k check h post. search rules) in
+    let told = c.test_each.ensures (row25 n (matrix_in a.a) (matrix_in a.b)) (λ j. n) (λ k check h post. search rules) in
     let e = c.min.ensures in
     record { passed_value = rw e at told.0; pairs_value = rw e at told.1 }

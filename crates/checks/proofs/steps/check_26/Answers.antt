@@ -9,5 +9,5 @@ pub returns : goal.returns
 unfolding check26 pairs26
 returns c =
     let a = c.args in
-    let told = c.of_each.ensures (row26 a.n a.slot (matrix_in a.known) (matrix_in a.newest)) (otherwise a.slot a.n) (λ k check h post. search rules) in
+    let told = c.test_each.ensures (row26 a.n a.slot (matrix_in a.known) (matrix_in a.newest)) (otherwise a.slot a.n) (λ k check h post. search rules) in
     record { passed_value = told.0; pairs_value = told.1 }

@@ -9,5 +9,5 @@ pub returns : goal.returns
 unfolding check27 pairs27
 returns c =
     let a = c.args in
-    let told = c.of_each.ensures (row27 a.member a.slot (row_in a.accepted) (matrix_in a.newest)) (otherwise a.slot 1) (λ k check h post. search rules) in
+    let told = c.test_each.ensures (row27 a.member a.slot (row_in a.accepted) (matrix_in a.newest)) (otherwise a.slot 1) (λ k check h post. search rules) in
     record { passed_value = told.0; pairs_value = told.1 }

@@ -4,7 +4,7 @@ use mathlib.Core.Path.{◌≡◌}
 use Rattle.laws.proofs.Tests.{Walked}
 use Rattle.rows.specs.declared.Check.{Check}
 use Rattle.rows.specs.Tested.{Tells}
-use Rattle.rows.proofs.Check.of_each.Given as goal
+use Rattle.rows.proofs.steps.test_each.Given as goal
 
 -- each place so far passed, whatever its answer is said to tell
 abbrev pub invariant-loop-k : goal.invariant-loop-k

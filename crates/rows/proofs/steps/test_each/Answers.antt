@@ -1,9 +1,9 @@
--- `of_each` meets its contract: where each answer tells a test and a cost, the loop walks by them.
+-- `test_each` meets its contract: where each answer tells a test and a cost, the loop walks by them.
 use mathlib.Core.Path.{◌∙◌}
 use native.Mathlib.Omega.{arith}
 use borrow.Author.Rules.{rules}
 use Rattle.laws.proofs.Tests.{walk_starts, walks-on, walk-stops, walk_ends}
-use Rattle.rows.proofs.Check.of_each.Goals as goal
+use Rattle.rows.proofs.steps.test_each.Goals as goal
 
 pub loop-k-init : goal.loop-k-init
 loop-k-init g c =
