@@ -12,7 +12,7 @@ ghost use Rattle.checks.specs.Halts.{number_of};
 use crate::halt::Halt;
 use rows::{Check, Row, matrix_below};
 
-// What checks found: the first that failed, if any, and how many pairs of counts were compared until then.
+// What checks found: the first that failed, if any, and how many pairs of counts were compared until then, which is told in either case.
 #[derive(Clone, Copy)]
 pub struct Checked {
     pub halt: Option<Halt>,
