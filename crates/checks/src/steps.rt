@@ -1,10 +1,10 @@
 // The checks of a reply, on rows and matrices by value, in document 01's order, each with the pairs of counts that it compared; and the
 // matrix of the member's own record.
-ghost use Rattle.std.specs.Prelude.{◌≡◌, cond, not, ◌||◌, ◌+◌, ◌≤◌, ◌<◌, min, eqb, leb};
+ghost use Rattle.std.specs.Prelude.{◌≡◌, cond, not, ◌||◌, ◌+◌, ◌≤◌, min, eqb, leb};
 ghost use Rattle.model.specs.Rows.{comparable as comparableOf};
 ghost use Rattle.model.specs.Records.{matrix_within};
-ghost use Rattle.model.specs.Member.{check22, check23, check25, check26, check27, entry22, row26, row27, joined};
-ghost use Rattle.model.specs.Pairs.{otherwise, pairs22, pairs23, pairs25, pairs26, pairs27, if_made};
+ghost use Rattle.model.specs.Member.{check22, check23, check25, check26, check27, joined};
+ghost use Rattle.model.specs.Pairs.{pairs22, pairs23, pairs25, pairs26, pairs27, if_made};
 ghost use Rattle.rows.specs.Meaning.{row_in, matrix_in};
 ghost use Rattle.lists.specs.Functions.{Within};
 ghost use Rattle.checks.specs.Halts.{number_of};
@@ -65,26 +65,16 @@ fn in_order(skipped: bool, a: Row, b: Row, n: usize) -> Check
     }
 }
 
-// 22 at place k of the slot's row, from 0 on: the member's own, or the known count is not above the newest record's.
-#[tactic(auto, using(crate::proofs::Matrices::entry_22))]
-fn entry_22(known: [Row; 12], newest: [Row; 12], member: usize, slot: usize, k: usize) -> Check
-    requires { (Within 12 slot) × (k < 12) }
-    ensures passed_value { result.passed ≡ entry22 member slot (matrix_in known) (matrix_in newest) (k + 1) }
-    ensures pairs_value { result.pairs ≡ otherwise member 1 (k + 1) }
-{
-    let at = slot - 1;
-    let a = known[at];
-    let b = newest[at];
-    not_above(k + 1 == member, a.counts[k], b.counts[k])
-}
-
 // 22: in the slot's row, no other member's known count exceeds the newest record's.
 pub fn check_22(known: [Row; 12], newest: [Row; 12], n: usize, member: usize, slot: usize) -> Check
     requires { (n ≤ 12) × (Within n slot) }
     ensures passed_value { result.passed ≡ check22 n member slot (matrix_in known) (matrix_in newest) }
     ensures pairs_value { result.pairs ≡ pairs22 n member slot (matrix_in known) (matrix_in newest) }
 {
-    test_each(n, |k| entry_22(known, newest, member, slot, k))
+    let at = slot - 1;
+    let a = known[at];
+    let b = newest[at];
+    test_each(n, |k| not_above(k + 1 == member, a.counts[k], b.counts[k]))
 }
 
 // 23: the newest record's entry for the member is its accepted count.
@@ -117,34 +107,13 @@ pub fn check_25(stored: [Row; 12], newest: [Row; 12], n: usize, slot: usize) -> 
     }
 }
 
-// 26 at row j, from 0 on: the slot's own, or known and newest are comparable.
-#[tactic(auto, using(crate::proofs::Matrices::row_26))]
-fn row_26(known: [Row; 12], newest: [Row; 12], n: usize, slot: usize, j: usize) -> Check
-    requires { (n ≤ 12) × (j < 12) }
-    ensures passed_value { result.passed ≡ row26 n slot (matrix_in known) (matrix_in newest) (j + 1) }
-    ensures pairs_value { result.pairs ≡ otherwise slot n (j + 1) }
-{
-    in_order(j + 1 == slot, known[j], newest[j], n)
-}
-
 // 26: in every other row, known and newest are comparable.
 pub fn check_26(known: [Row; 12], newest: [Row; 12], n: usize, slot: usize) -> Check
     requires { n ≤ 12 }
     ensures passed_value { result.passed ≡ check26 n slot (matrix_in known) (matrix_in newest) }
     ensures pairs_value { result.pairs ≡ pairs26 n slot (matrix_in known) (matrix_in newest) }
 {
-    test_each(n, |j| row_26(known, newest, n, slot, j))
-}
-
-// 27 at row j, from 0 on: the slot's own, or the newest record's count for the member is not above its accepted count there.
-#[tactic(auto, using(crate::proofs::Matrices::row_27))]
-fn row_27(accepted: Row, newest: [Row; 12], member: usize, slot: usize, j: usize) -> Check
-    requires { (Within 12 member) × (j < 12) }
-    ensures passed_value { result.passed ≡ row27 member slot (row_in accepted) (matrix_in newest) (j + 1) }
-    ensures pairs_value { result.pairs ≡ otherwise slot 1 (j + 1) }
-{
-    let row = newest[j];
-    not_above(j + 1 == slot, row.counts[member - 1], accepted.counts[j])
+    test_each(n, |j| in_order(j + 1 == slot, known[j], newest[j], n))
 }
 
 // 27: in every other row, the newest record's entry for the member is not above its accepted count there.
@@ -153,7 +122,11 @@ pub fn check_27(accepted: Row, newest: [Row; 12], n: usize, member: usize, slot:
     ensures passed_value { result.passed ≡ check27 n member slot (row_in accepted) (matrix_in newest) }
     ensures pairs_value { result.pairs ≡ pairs27 n member slot (row_in accepted) (matrix_in newest) }
 {
-    test_each(n, |j| row_27(accepted, newest, member, slot, j))
+    let at = member - 1;
+    test_each(
+        n,
+        |j| not_above(j + 1 == slot, newest[j].counts[at], accepted.counts[j]),
+    )
 }
 
 // 22, 23 and 24, in order: the slot's row of the newest record, and whose record the stored one is.

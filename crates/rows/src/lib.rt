@@ -1,10 +1,10 @@
 // Timestamp rows and matrices by value: one entry replaced, and comparison over the first n entries.
 #![tactic(auto)]
 
-ghost use Rattle.std.specs.Prelude.{◌≡◌, ◌+◌, ◌<◌, true, cond, min};
+ghost use Rattle.std.specs.Prelude.{◌≡◌, true, cond, min};
 ghost use Rattle.model.specs.Rows.{is_equal, is_below, is_above, is_crossed};
-ghost use Rattle.model.specs.Rows.{compared, crossed, equal_or_below, larger as largerOf, matrix_below, with_count, zero_row};
-ghost use Rattle.model.specs.Pairs.{row25, row_pairs25};
+ghost use Rattle.model.specs.Rows.{below, compared, crossed, equal_or_below, larger as largerOf, matrix_below, with_count, zero_row};
+ghost use Rattle.model.specs.Pairs.{row_pairs25};
 ghost use Rattle.rows.specs.Meaning.{row_in, matrix_in, comparison_in};
 
 pub mod steps;
@@ -132,14 +132,13 @@ impl Row {
     }
 }
 
-// Is row j of a, from 0 on, below its fellow in b?
-#[tactic(auto, unfolding(model::specs::Pairs::row25), using(crate::proofs::Laws::answer_below, crate::proofs::Laws::row_at))]
-fn row_below(a: [Row; 12], b: [Row; 12], n: usize, j: usize) -> Check
-    requires { j < 12 }
-    ensures passed_value { result.passed ≡ row25 (min n 12) (matrix_in a) (matrix_in b) (j + 1) }
+// Is a row below its fellow?
+#[tactic(auto, using(crate::proofs::Laws::answer_below))]
+fn row_below(a: Row, b: Row, n: usize) -> Check
+    ensures passed_value { result.passed ≡ below (min n 12) (row_in a) (row_in b) }
     ensures pairs_value { result.pairs ≡ min n 12 }
 {
-    let row = a[j].compare(b[j], n);
+    let row = a.compare(b, n);
     let answer = row.answer;
     Check {
         passed: answer.equal_or_below(),
@@ -152,5 +151,5 @@ pub fn matrix_below(a: [Row; 12], b: [Row; 12], n: usize) -> Check
     ensures passed_value { result.passed ≡ matrix_below (min n 12) (matrix_in a) (matrix_in b) }
     ensures pairs_value { result.pairs ≡ row_pairs25 (min n 12) (matrix_in a) (matrix_in b) }
 {
-    test_each(n.min(12), |j| row_below(a, b, n, j))
+    test_each(n.min(12), |j| row_below(a[j], b[j], n))
 }
