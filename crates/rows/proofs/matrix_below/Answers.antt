@@ -1,73 +1,19 @@
--- `matrix_below` meets its contract: each row passed is below its fellow, and the pairs are those of the rows looked at. Assumes nothing.
-use borrow.Author.Rules.{rules}
-use Prim.Native.Nat.{◌+◌, ◌-◌, ◌<◌, min}
-use mathlib.Core.Path.{◌≡◌}
+-- `matrix_below` meets its contract: the rows are tested in turn, each by `row_below`.
+use Prim.Native.Nat.{◌<◌, min}
 use native.Mathlib.Omega.{arith}
-use lib.ListN.{get_or}
+use borrow.Author.Rules.{rules}
+use Rattle.model.specs.Pairs.{row25, row_pairs25}
 use Rattle.model.specs.Rows.{matrix_below}
-use Rattle.model.specs.Pairs.{row_pairs25}
-use Rattle.laws.proofs.Tests.{walk_starts, walks-on, walk-stops, walk_ends}
-use Rattle.rows.specs.Meaning.{no_row}
-use Rattle.rows.proofs.Laws.{row_at, answer_below}
-use Rattle.rows.proofs.matrix_below.Invariants.{test, cost}
+use Rattle.rows.specs.Meaning.{matrix_in}
+use Rattle.rows.proofs.Laws.{row_at}
 use Rattle.rows.proofs.matrix_below.Goals as goal
-use Rattle.rows.proofs.matrix_below.Goals.{After-equal_or_below}
 
--- the row at hand, by the answer
-tested : (c : After-equal_or_below) →
-    let a = c.args in
-    c.equal_or_below.result ≡ test a.n a.a a.b (c.loop-j.j + 1)
-tested c =
-    let a = c.args in
-    let j = c.loop-j.j in
-    let h : j < 12 = omega arith in
-    rw (row_at a.a j h, row_at a.b j h)
-    (answer_below (min a.n 12) (get_or a.a j no_row) (get_or a.b j no_row) c.compare-row.ensures.answer_value
-    c.equal_or_below.ensures)
-
-pub loop-j-init : goal.loop-j-init
-loop-j-init c = (search rules, (omega arith, walk_starts _ _ 12))
-
-pub returns-then-not-equal_or_below-clause-passed_value : goal.returns-then-not-equal_or_below-clause-passed_value
+pub returns : goal.returns
 unfolding matrix_below row_pairs25
-returns-then-not-equal_or_below-clause-passed_value c =
+returns c =
     let a = c.args in
-    (walk-stops (test a.n a.a a.b) (cost a.n) 12 c.loop-j.invariant.1.1
-    (tested (goal.at.returns-then-not-equal_or_below-clause-passed_value c).After-equal_or_below)
-    c.compare-row.ensures.pairs_value
-    (min a.n 12) (omega arith) c.if-not-equal_or_below.true-raw).0
-
-pub returns-then-not-equal_or_below-clause-pairs_value : goal.returns-then-not-equal_or_below-clause-pairs_value
-unfolding matrix_below row_pairs25
-returns-then-not-equal_or_below-clause-pairs_value c =
-    let a = c.args in
-    (walk-stops (test a.n a.a a.b) (cost a.n) 12 c.loop-j.invariant.1.1
-    (tested (goal.at.returns-then-not-equal_or_below-clause-pairs_value c).After-equal_or_below) c.compare-row.ensures.pairs_value
-    (min a.n 12) (omega arith) c.if-not-equal_or_below.true-raw).1
-
-pub loop-j-preserved : goal.loop-j-preserved
-loop-j-preserved c =
-    let a = c.args in
-    let e = c.compare-row.ensures.pairs_value in (
-      search rules,
-      (
-        search rules,
-        walks-on (test a.n a.a a.b) (cost a.n) 12 c.loop-j.invariant.1.1
-            (tested (goal.at.loop-j-preserved c).After-equal_or_below) e (omega (arith, e))
-            c.if-not-equal_or_below.false-raw,
-      ),
-    )
-
-pub returns-clause-passed_value : goal.returns-clause-passed_value
-unfolding matrix_below row_pairs25
-returns-clause-passed_value c =
-    let a = c.args in
-    let l = c.loop-j in
-    (walk_ends (test a.n a.a a.b) (cost a.n) 12 l.invariant.1.1 (let e : l.j ≡ min a.n 12 = omega arith in e)).0
-
-pub returns-clause-pairs_value : goal.returns-clause-pairs_value
-unfolding matrix_below row_pairs25
-returns-clause-pairs_value c =
-    let a = c.args in
-    let l = c.loop-j in
-    (walk_ends (test a.n a.a a.b) (cost a.n) 12 l.invariant.1.1 (let e : l.j ≡ min a.n 12 = omega arith in e)).1
+    let n = min a.n 12 in
+    let told = c.test_each.ensures (row25 n (matrix_in a.a) (matrix_in a.b)) (λ j. n)
+    (λ k check h post. let s : k < 12 = omega arith in rw (row_at a.a k s, row_at a.b k s) (search rules)) in
+    let e = c.min.ensures in
+    record { passed_value = rw e at told.0; pairs_value = rw e at told.1 }
