@@ -8,6 +8,7 @@ use Rattle.lists.specs.Parts.{words}
 use Rattle.model.specs.RecordWords.{record_size, row_of}
 use Rattle.model.specs.Table.{own_at, accepted_at, last_at, pending_at, known_at, first_at, second_at, block_size, slot_at, member_of}
 use Rattle.laws.proofs.Records.{row_of_at}
+use Rattle.laws.proofs.Tables.{block_small}
 use Rattle.member_block.specs.Needs.{Running}
 
 pub head_room : (n : ℕ) → 5 ≤ block_size n
@@ -33,6 +34,40 @@ first_room n = omega arith
 pub second_room : (n : ℕ) → second_at n + record_size n ≤ block_size n
 unfolding block_size
 second_room n = omega arith
+
+-- All of it, for the bounds of what a step reads and writes.
+pub record Rooms (n : ℕ) : Type 0 where
+  pub head : 5 ≤ block_size n
+  pub own : own_at + n ≤ block_size n
+  pub accepted : accepted_at n + n ≤ block_size n
+  pub last : last_at n + 8 ≤ block_size n
+  pub pending : pending_at n + 8 ≤ block_size n
+  pub known : known_at n + n * n ≤ block_size n
+  pub first : first_at n + record_size n ≤ block_size n
+  pub second : second_at n + record_size n ≤ block_size n
+  pub messages : first_at n + 2 * record_size n ≤ block_size n
+  pub known_first : known_at n + n * n ≤ first_at n
+  pub last_pending : last_at n + 8 ≤ pending_at n
+  pub value_and_matrix : 4 + 8 + n * n ≤ record_size n
+  pub small : n ≤ 12 → block_size n ≤ 501
+
+pub rooms : (n : ℕ) → Rooms n
+unfolding block_size second_at first_at known_at pending_at last_at accepted_at record_size
+rooms n = record {
+  head = omega arith;
+  own = omega arith;
+  accepted = omega arith;
+  last = omega arith;
+  pending = omega arith;
+  known = omega arith;
+  first = omega arith;
+  second = omega arith;
+  messages = omega arith;
+  known_first = omega arith;
+  last_pending = omega arith;
+  value_and_matrix = omega arith;
+  small = block_small n;
+}
 
 -- The word of a running operation's slot is one of 1 to n.
 pub running_slot : (n : ℕ) (l : List ℕ) → Running n l → Within n (words l slot_at)

@@ -9,14 +9,6 @@ use Rattle.records.specs.Meaning.{record_in}
 use Rattle.member_block.proofs.Laws.{first_noted_by, whole}
 use Rattle.member_block.proofs.parts.note_first.Goals as goal
 
-pub store_record-requires : goal.store_record-requires
-unfolding block_size second_at
-store_record-requires c = (search rules, omega arith)
-
-pub bounds-block-0 : goal.bounds-block-0
-unfolding block_size second_at first_at known_at pending_at last_at accepted_at
-bounds-block-0 c = omega (arith, c.store_record.auto.t)
-
 pub returns : goal.returns
 unfolding block_size second_at first_at known_at pending_at last_at accepted_at
 returns c =

@@ -6,27 +6,6 @@ use Rattle.records.specs.Meaning.{record_in}
 use Rattle.member_block.proofs.Laws.{own_built}
 use Rattle.member_block.proofs.parts.own_record.Goals as goal
 
-pub bounds-block-3 : goal.bounds-block-3
-unfolding block_size second_at first_at known_at pending_at last_at accepted_at member_of
-bounds-block-3 c = omega arith
-
-pub bounds-block-slot : goal.bounds-block-slot
-unfolding block_size second_at first_at known_at pending_at last_at accepted_at member_of
-bounds-block-slot c = omega arith
-
-pub load_value-value-requires : goal.load_value-value-requires
-unfolding block_size second_at first_at known_at pending_at last_at accepted_at member_of
-load_value-value-requires c = omega arith
-
-pub joined_matrix-matrix-requires : goal.joined_matrix-matrix-requires
-unfolding member_of
-joined_matrix-matrix-requires c =
-    (c.requires.0.block.most, (c.requires.1.0, c.requires.0.slot))
-
-pub bounds-block-4 : goal.bounds-block-4
-unfolding block_size second_at first_at known_at pending_at last_at accepted_at member_of
-bounds-block-4 c = omega arith
-
 pub returns : goal.returns
 unfolding member_of record_in
 returns c =

@@ -29,43 +29,6 @@ carried_value c =
 long : (c : After-store_value) → length c.store_value.new.t ≡ length c.args.block.now
 long c = simp length-set at c.store_value.auto.t
 
-pub carried-pending-requires : goal.carried-pending-requires
-unfolding block_size second_at first_at known_at pending_at last_at accepted_at
-carried-pending-requires c = omega arith
-
-pub bounds-block-own : goal.bounds-block-own
-unfolding block_size second_at first_at known_at pending_at last_at accepted_at
-bounds-block-own c = omega arith
-
-pub overflow_add-block : goal.overflow_add-block
-unfolding member_of
-overflow_add-block c =
-    let slot = c.requires.slot in
-    record {
-      fits =
-          omega (arith, c.requires.room, count_of c.args.n (words c.args.block.now) 5 c.args.slot slot.least slot.most);
-    }
-
-pub bounds-block-own-2 : goal.bounds-block-own-2
-unfolding block_size second_at first_at known_at pending_at last_at accepted_at
-bounds-block-own-2 c = omega arith
-
-pub store_value-requires : goal.store_value-requires
-unfolding block_size second_at first_at known_at pending_at last_at accepted_at
-store_value-requires c = simp length-set (omega arith)
-
-pub bounds-block-0 : goal.bounds-block-0
-unfolding block_size second_at first_at known_at pending_at last_at accepted_at
-bounds-block-0 c = omega (arith, long (goal.at.bounds-block-0 c).After-store_value)
-
-pub bounds-block-3 : goal.bounds-block-3
-unfolding block_size second_at first_at known_at pending_at last_at accepted_at
-bounds-block-3 c = simp length-set (omega (arith, long (goal.at.bounds-block-3 c).After-store_value))
-
-pub bounds-block-4 : goal.bounds-block-4
-unfolding block_size second_at first_at known_at pending_at last_at accepted_at
-bounds-block-4 c = simp length-set (omega (arith, long (goal.at.bounds-block-4 c).After-store_value))
-
 pub returns : goal.returns
 unfolding block_size second_at first_at known_at pending_at last_at accepted_at
 returns c =
