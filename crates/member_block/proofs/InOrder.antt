@@ -63,14 +63,10 @@ went_on_pairs true true false p22 p25 p26 p27 = omega arith
 went_on_pairs true true true p22 p25 p26 p27 = omega arith
 
 -- A reply whose seals did not hold: no count is compared.
-module _ (n i : ℕ) (m : Member) (newest stored : Rec) (seals : ℕ) where
-  pub unsealed : (seals ≡ 3 → ⊥) → halt_number n i m newest stored seals ≡ 21
-  unfolding halt_number check21
-  unsealed h = rw (ne_eqb seals 3 h)
-
-  pub unsealed_pairs : (seals ≡ 3 → ⊥) → halt_pairs n i m newest stored seals ≡ 0
-  unfolding halt_pairs if_made
-  unsealed_pairs h = rw (unsealed h)
+pub unsealed : (n i : ℕ) (m : Member) (newest stored : Rec) (seals : ℕ) → (seals ≡ 3 → ⊥)
+    → (halt_number n i m newest stored seals ≡ 21) × (halt_pairs n i m newest stored seals ≡ 0)
+unfolding halt_number check21 halt_pairs if_made
+unsealed n i m newest stored seals h = (rw (ne_eqb seals 3 h), rw (ne_eqb seals 3 h))
 
 -- A reply whose seals held, by the block's words w and by what the code holds.
 module _ (n i : ℕ) (w : ℕ → ℕ) (known : List Row) (accepted : Row) (newest stored : Record) where
@@ -140,8 +136,8 @@ module _ (n i : ℕ) (w : ℕ → ℕ) (known : List Row) (accepted : Row) (newe
         let k = number_by_parts ∙ stopped pass22 pass23 pass24 matrix_number z in (
           e ∙ sym k,
           f
-          ∙ ap (slot_sum look22) e
-          ∙ sym (pairs_by_parts k ∙ stopped_pairs pass22 pass23 pass24 look22 look25 look26 look27 z),
+              ∙ ap (slot_sum look22) e
+              ∙ sym (pairs_by_parts k ∙ stopped_pairs pass22 pass23 pass24 look22 look25 look26 look27 z),
         )
 
     -- the second part, which found k after l more, does
@@ -151,5 +147,5 @@ module _ (n i : ℕ) (w : ℕ → ℕ) (known : List Row) (accepted : Row) (newe
         let s = number_by_parts ∙ went_on pass22 pass23 pass24 matrix_number (sym e ∙ none) in (
           g ∙ sym s,
           ap₂ (λ x y. x + y) (f ∙ ap (slot_sum look22) none) (m ∙ ap (matrix_sum look25 look26 look27) g)
-          ∙ sym (pairs_by_parts s ∙ went_on_pairs pass25 pass26 pass27 look22 look25 look26 look27),
+              ∙ sym (pairs_by_parts s ∙ went_on_pairs pass25 pass26 pass27 look22 look25 look26 look27),
         )

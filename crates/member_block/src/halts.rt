@@ -18,7 +18,7 @@ use rows::Row;
 
 // The first check that fails, if any, and the pairs compared until then. The known matrix is handed in, since the member's own record
 // needs it too.
-#[tactic(auto, using(crate::proofs::Sizes::rooms, crate::proofs::InOrder::unsealed, crate::proofs::InOrder::unsealed_pairs, crate::proofs::Sizes::running_slot))]
+#[tactic(auto, using(crate::proofs::Sizes::rooms, crate::proofs::Sizes::running_slot, crate::proofs::InOrder::unsealed))]
 pub fn halt_of(
     block: &[u32],
     n: usize,

@@ -26,10 +26,9 @@ pub fn carried(block: &[u32], last: usize, operation: u32, value: [u32; 8]) -> [
     ensures { value_of (words result)
         ≡ cond (eqb operation write) (value_of (words value)) (value_of (from (words block.now) last)) }
 {
-    if operation == WRITE {
-        value
-    } else {
-        load_value(block, last)
+    match operation {
+        WRITE => value,
+        _ => load_value(block, last),
     }
 }
 

@@ -43,7 +43,7 @@ pub fn block_size(n: usize) -> usize
 }
 
 // The block of a member, by its numbers and its two message records.
-#[tactic(auto, unfolding(model::specs::Table::member_of, model::specs::Table::sound_member, model::specs::Table::sound_operation, model::specs::RecordWords::record_size), using(crate::proofs::Sizes::rooms))]
+#[tactic(auto, using(crate::proofs::Sizes::rooms, crate::proofs::Laws::sound_by_words))]
 pub fn sound_block(block: &[u32], n: u32, member: u32) -> bool
     requires { Block n block.now }
     ensures { result ≡ sound_member n member (member_in n block.now) }
@@ -61,7 +61,7 @@ pub fn sound_block(block: &[u32], n: u32, member: u32) -> bool
 }
 
 // The own count of a slot; there is none, 0, outside 1 to n.
-#[tactic(auto, unfolding(model::specs::Table::member_of, model::specs::RecordWords::row_of, lists::specs::Functions::inside, lists::specs::Functions::from, lists::specs::Functions::numbered), using(crate::proofs::Sizes::rooms))]
+#[tactic(auto, unfolding(lists::specs::Functions::inside), using(crate::proofs::Sizes::rooms, crate::proofs::Sizes::own_of))]
 pub fn own_count(block: &[u32], n: u32, slot: u32) -> u32
     requires { Block n block.now }
     ensures { result ≡ (member_in n block.now).own slot }
@@ -100,7 +100,16 @@ pub fn check_begin(
 {
     let count = own_count(block, n, slot);
     let phase = block[PHASE_AT];
-    rules::check_begin(kind, n, phase, block[CRASHED_AT], count, member, slot, operation)
+    rules::check_begin(
+        kind,
+        n,
+        phase,
+        block[CRASHED_AT],
+        count,
+        member,
+        slot,
+        operation,
+    )
 }
 
 #[tactic(auto, unfolding(model::specs::Table::member_of), using(crate::proofs::Sizes::rooms))]
@@ -120,7 +129,7 @@ pub fn check_crash(block: &[u32], n: u32, member: u32) -> Result<(), Refusal>
 }
 
 // The submit of a running operation: its slot and count.
-#[tactic(auto, unfolding(model::specs::Table::member_of), using(crate::proofs::Sizes::head_room, crate::proofs::Sizes::own_room, crate::proofs::Sizes::own_at_lem))]
+#[tactic(auto, unfolding(model::specs::Table::member_of), using(crate::proofs::Sizes::rooms, crate::proofs::Sizes::own_at_lem))]
 pub fn submit_of(block: &[u32], n: usize) -> Submit
     requires { Running n block.now }
     ensures { let m = member_in n block.now in (result.slot ≡ m.slot) × (result.count ≡ m.own m.slot) }
@@ -151,7 +160,7 @@ pub fn commit_of(block: &[u32], n: usize, member: u32) -> Record
 }
 
 // The start of an operation.
-#[tactic(auto, unfolding(model::specs::Table::member_of), using(crate::proofs::Sizes::rooms, crate::proofs::Sizes::own_at_lem, crate::proofs::Laws::set_long))]
+#[tactic(auto, using(crate::proofs::Sizes::rooms, crate::proofs::Sizes::own_at_lem, crate::proofs::Laws::set_long))]
 pub fn begin(block: &mut [u32], n: usize, slot: u32, operation: u32, value: [u32; 8])
     requires { Begins n block.old slot }
     ensures { member_in n block.new ≡ begun (member_in n block.old) slot operation (value_of (words value)) }
@@ -177,7 +186,7 @@ pub fn answer(block: &mut [u32], n: usize, newest: Record, stored: Record)
 }
 
 // A reply taken: the checks, and what follows from them. It answers the pairs of counts that the checks compared.
-#[tactic(auto, using(crate::proofs::Sizes::rooms))]
+#[tactic(auto, using(crate::proofs::Sizes::rooms, crate::proofs::Laws::known_loaded, crate::proofs::Laws::replied_pairs))]
 pub fn reply(
     block: &mut [u32],
     n: usize,
@@ -203,7 +212,7 @@ pub fn reply(
 }
 
 // The reply in the block's own two message records, whose seals held.
-#[tactic(auto, using(crate::proofs::Sizes::rooms))]
+#[tactic(auto, using(crate::proofs::Sizes::rooms, crate::proofs::Laws::known_loaded))]
 pub fn reply_noted(block: &mut [u32], n: usize, member: u32)
     requires { (Running n block.old) × (Within n member) }
     ensures { let m = member_in n block.old in
@@ -229,7 +238,7 @@ pub fn judge(block: &mut [u32], n: usize, won: bool)
 }
 
 // The outcome taken, and the value that an accepted read returns.
-#[tactic(auto, unfolding(model::specs::Table::member_of, model::specs::Member::outcome, model::specs::Member::returned_by, model::specs::Member::completed, model::specs::Member::dropped, model::specs::Member::took_over), using(crate::proofs::Sizes::rooms, crate::proofs::Laws::second_value))]
+#[tactic(auto, using(crate::proofs::Sizes::rooms, crate::proofs::Laws::ended, crate::proofs::Laws::returned))]
 pub fn finish(block: &mut [u32], n: usize, accepted: bool) -> Option<[u32; 8]>
     requires { Running n block.old }
     ensures taken { returned_in result ≡ returned_by (member_in n block.old) accepted }

@@ -8,7 +8,7 @@ use Rattle.lists.proofs.Refusals.{number_passes}
 use Rattle.model.specs.Halves.{not_waiting}
 use Rattle.model.specs.Table.{member_of}
 use Rattle.member.proofs.Refusals.{good}
-use Rattle.member_block.proofs.Sizes.{head_room}
+use Rattle.member_block.proofs.Sizes.{rooms}
 use Rattle.member.proofs.numbers.waiting_number.Goals as goal
 use Rattle.member.proofs.numbers.waiting_number.Goals.{Else-number-ne0}
 
@@ -16,7 +16,7 @@ room : (c : Else-number-ne0) → 5 ≤ length c.args.block.now
 room c =
     let a = c.args in
     let g = good a.n a.member a.block.now (sym c.member_number-number.ensures ∙ c.if-number-ne0.false) in
-    omega (arith, head_room a.n, g.block.long)
+    omega (arith, rooms a.n, g.block.long)
 
 pub bounds-block-0 : goal.bounds-block-0
 bounds-block-0 c = omega (arith, room (goal.at.bounds-block-0 c).Else-number-ne0)

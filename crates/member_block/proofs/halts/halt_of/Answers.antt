@@ -2,7 +2,7 @@
 -- pairs.
 use Rattle.std.proofs.lemmas.Grind.{common_steps}
 use Rattle.std.proofs.Common.{rules}
-use Prim.Native.Nat.{ℕ, ◌+◌, ◌≤◌}
+use Prim.Native.Nat.{◌+◌}
 use native.Mathlib.Omega.{arith}
 use mathlib.Core.Path.{◌∙◌, ◌≡◌, sym, ap}
 use Rattle.lists.specs.Functions.{from}
@@ -14,7 +14,7 @@ use Rattle.model.specs.RecordWords.{matrix_of, row_of}
 use Rattle.model.specs.Table.{accepted_at, known_at, member_of}
 use Rattle.rows.specs.Meaning.{matrix_in, row_in}
 use Rattle.records.specs.Meaning.{record_in}
-use Rattle.member_block.proofs.InOrder.{slot_stops, slot_passes}
+use Rattle.member_block.proofs.InOrder.{unsealed, slot_stops, slot_passes}
 use Rattle.member_block.proofs.Laws.{few_pairs, ceiling_small}
 use Rattle.member_block.proofs.halts.halt_of.Goals as goal
 use Rattle.member_block.proofs.halts.halt_of.Goals.{After-load_row-accepted, Then-is_some, After-matrix_halt-rest}
@@ -30,6 +30,9 @@ known : (c : After-load_row-accepted) → let a = c.args in
     matrix_in a.known ≡ matrix_of a.n (from (words a.block.now) (known_at a.n))
 unfolding member_of
 known c = c.requires.1.1
+
+pub returns-then-seals-ne3-clause-pairs_value : goal.returns-then-seals-ne3-clause-pairs_value
+returns-then-seals-ne3-clause-pairs_value c = sym (unsealed _ _ _ _ _ _ c.if-seals-ne3.true).1
 
 -- the first part says it
 stops : (c : Then-is_some) →

@@ -1,10 +1,9 @@
--- `drop` meets its contract: the words after the two clearings and the three stores are those of `dropped-by`.
+-- `drop` meets its contract: the words after the two clearings and the three stores are those of `dropped_by`.
 use Prim.Native.Nat.{◌*◌}
 use native.Mathlib.Omega.{arith}
 use mathlib.Core.Path.{◌∙◌, ap}
 use Rattle.lists.specs.Parts.{words}
 use Rattle.model.specs.Table.{accepted_at, block_size, first_at, known_at, last_at, member_of, pending_at, second_at}
-use Rattle.laws.proofs.Records.{record_size-small}
 use Rattle.laws.proofs.Steps.{dropped_by, holds_cleared, holds_set}
 use Rattle.member_block.proofs.Laws.{whole}
 use Rattle.member_block.proofs.parts.drop.Goals as goal

@@ -2,10 +2,8 @@
 use Prim.Native.Nat.{◌*◌}
 use native.Mathlib.Omega.{arith}
 use mathlib.Core.Path.{◌∙◌, ap}
-use lib.ListN.{length-set}
 use Rattle.lists.specs.Parts.{words}
 use Rattle.model.specs.Table.{accepted_at, block_size, first_at, known_at, last_at, member_of, pending_at, second_at}
-use Rattle.laws.proofs.Records.{record_size-small}
 use Rattle.laws.proofs.Steps.{failed_by, holds_cleared, holds_set}
 use Rattle.member_block.proofs.Laws.{whole}
 use Rattle.member_block.proofs.parts.fail.Goals as goal

@@ -1,5 +1,4 @@
--- `note` meets its contract: the words after the two stores and the phase are those of `noted-by`.
-use borrow.Author.Rules.{rules}
+-- `note` meets its contract: the words after the two stores and the phase are those of `noted_by`.
 use native.Mathlib.Omega.{arith}
 use mathlib.Core.Path.{◌∙◌, ◌≡◌, ap}
 use lib.ListN.{length}

@@ -1,5 +1,4 @@
--- `note_first` meets its contract: the words after the store and the phase are those of `first-noted-by`.
-use borrow.Author.Rules.{rules}
+-- `note_first` meets its contract: the words after the store and the phase are those of `first_noted_by`.
 use native.Mathlib.Omega.{arith}
 use mathlib.Core.Path.{◌∙◌, ap}
 use Rattle.lists.specs.Parts.{words}

@@ -1,6 +1,5 @@
--- `own_record` meets its contract: the fields are read where the layout says, and `own-built` says that they are the member's own record.
-use native.Mathlib.Omega.{arith}
-use Rattle.model.specs.Table.{accepted_at, last_at, pending_at, known_at, first_at, second_at, block_size, member_of}
+-- `own_record` meets its contract: the fields are read where the layout says, and `own_built` says that they are the member's own record.
+use Rattle.model.specs.Table.{member_of}
 use Rattle.lists.specs.Parts.{words}
 use Rattle.records.specs.Meaning.{record_in}
 use Rattle.member_block.proofs.Laws.{own_built}

@@ -1,4 +1,4 @@
--- `begin` meets its contract: the words after the count, the value and the three stores are those of `begun-by`.
+-- `begin` meets its contract: the words after the count, the value and the three stores are those of `begun_by`.
 use Prim.Native.Nat.{◌+◌, ◌-◌}
 use native.Mathlib.Omega.{arith}
 use mathlib.Core.Path.{◌∙◌, ◌≡◌, ap}
@@ -10,7 +10,7 @@ use Rattle.lists.specs.Parts.{words}
 use Rattle.model.specs.Records.{write}
 use Rattle.model.specs.RecordWords.{value_of}
 use Rattle.model.specs.Table.{accepted_at, block_size, first_at, known_at, last_at, member_of, pending_at, second_at}
-use Rattle.laws.proofs.Steps.{begun_by, count_of, holds_pasted, holds_set}
+use Rattle.laws.proofs.Steps.{begun_by, holds_pasted, holds_set}
 use Rattle.member_block.proofs.Laws.{whole}
 use Rattle.member_block.proofs.steps.begin.Goals as goal
 use Rattle.member_block.proofs.steps.begin.Goals.{After-carried-pending, After-store_value}

@@ -6,6 +6,6 @@ use mathlib.Core.Bool.{true, false}
 
 pub returns : goal.returns
 returns c = elim c.if-won.branch [
-    then-won w ↦ rw (w.block-is, w.if-won.true) (judged_set c.requires true)
+  | then-won w ↦ rw (w.block-is, w.if-won.true) (judged_set c.requires true)
   | else-won w ↦ rw (w.block-is, w.if-won.false) (judged_set c.requires false)
 ]
