@@ -2,4 +2,5 @@
 
 #![tactic(auto)]
 
+pub mod halt;
 pub mod steps;

@@ -7,13 +7,15 @@ ghost use Rattle.model.specs.Member.{check22, check23, check25, check26, check27
 ghost use Rattle.model.specs.Pairs.{pairs22, pairs23, pairs25, pairs26, pairs27, if_made};
 ghost use Rattle.rows.specs.Meaning.{row_in, matrix_in};
 ghost use Rattle.lists.specs.Functions.{Within};
+ghost use Rattle.checks.specs.Halts.{number_of};
 
+use crate::halt::Halt;
 use rows::{Check, Row, matrix_below};
 
-// What checks found: the number of the first that fails, 0 where all pass, and how many pairs of counts were compared until then.
+// What checks found: the first that failed, if any, and how many pairs of counts were compared until then.
 #[derive(Clone, Copy)]
-pub struct Halt {
-    pub number: u32,
+pub struct Checked {
+    pub halt: Option<Halt>,
     pub pairs: u32,
 }
 
@@ -46,6 +48,7 @@ fn equal(skipped: bool, a: u32, b: u32) -> Check
 }
 
 // Are the rows comparable, not crossed? Skipped likewise.
+#[tactic(auto, using(rows::proofs::Laws::answer_comparable))]
 fn in_order(skipped: bool, a: Row, b: Row, n: usize) -> Check
     ensures passed_value { result.passed ≡ (skipped || comparableOf (min n 12) (row_in a) (row_in b)) }
     ensures pairs_value { result.pairs ≡ cond skipped 0 (min n 12) }
@@ -71,8 +74,7 @@ pub fn check_22(known: [Row; 12], newest: [Row; 12], n: usize, member: usize, sl
     let a = known[at];
     let b = newest[at];
     let mut pairs = 0;
-    let mut k = 0;
-    while k < n {
+    for k in 0..n {
         let entry = not_above(k + 1 == member, a.counts[k], b.counts[k]);
         pairs += entry.pairs;
         if !entry.passed {
@@ -81,7 +83,6 @@ pub fn check_22(known: [Row; 12], newest: [Row; 12], n: usize, member: usize, sl
                 pairs,
             };
         }
-        k += 1;
     }
     Check {
         passed: true,
@@ -90,6 +91,7 @@ pub fn check_22(known: [Row; 12], newest: [Row; 12], n: usize, member: usize, sl
 }
 
 // 23: the newest record's entry for the member is its accepted count.
+#[tactic(auto, unfolding(model::specs::Pairs::pairs23))]
 pub fn check_23(accepted: Row, newest: [Row; 12], member: usize, slot: usize) -> Check
     requires { (Within 12 member) × (Within 12 slot) }
     ensures passed_value { result.passed ≡ check23 member slot (row_in accepted) (matrix_in newest) }
@@ -124,8 +126,7 @@ pub fn check_26(known: [Row; 12], newest: [Row; 12], n: usize, slot: usize) -> C
     ensures pairs_value { result.pairs ≡ pairs26 n slot (matrix_in known) (matrix_in newest) }
 {
     let mut pairs = 0;
-    let mut j = 0;
-    while j < n {
+    for j in 0..n {
         let row = in_order(j + 1 == slot, known[j], newest[j], n);
         pairs += row.pairs;
         if !row.passed {
@@ -134,7 +135,6 @@ pub fn check_26(known: [Row; 12], newest: [Row; 12], n: usize, slot: usize) -> C
                 pairs,
             };
         }
-        j += 1;
     }
     Check {
         passed: true,
@@ -150,8 +150,7 @@ pub fn check_27(accepted: Row, newest: [Row; 12], n: usize, member: usize, slot:
 {
     let at = member - 1;
     let mut pairs = 0;
-    let mut j = 0;
-    while j < n {
+    for j in 0..n {
         let row = newest[j];
         let count = not_above(j + 1 == slot, row.counts[at], accepted.counts[j]);
         pairs += count.pairs;
@@ -161,7 +160,6 @@ pub fn check_27(accepted: Row, newest: [Row; 12], n: usize, member: usize, slot:
                 pairs,
             };
         }
-        j += 1;
     }
     Check {
         passed: true,
@@ -170,6 +168,7 @@ pub fn check_27(accepted: Row, newest: [Row; 12], n: usize, member: usize, slot:
 }
 
 // 22, 23 and 24, in order: the slot's row of the newest record, and whose record the stored one is.
+#[tactic(auto, unfolding(model::specs::Pairs::if_made, model::specs::Pairs::pairs23), using(model::proofs::Pairs::most22))]
 pub fn slot_halt(
     known: [Row; 12],
     accepted: Row,
@@ -178,32 +177,43 @@ pub fn slot_halt(
     n: usize,
     member: usize,
     slot: usize,
-) -> Halt
+) -> Checked
     requires { (n ≤ 12) × ((Within n member) × (Within n slot)) }
-    ensures number_value { result.number
+    ensures number_value { number_of result.halt
         ≡ cond (not (check22 n member slot (matrix_in known) (matrix_in newest))) 22
         (cond (not (check23 member slot (row_in accepted) (matrix_in newest))) 23
         (cond (not (eqb owner slot)) 24 0)) }
     ensures pairs_value { result.pairs
-        ≡ if_made result.number 22 (pairs22 n member slot (matrix_in known) (matrix_in newest)) + if_made result.number 23 pairs23 }
+        ≡ if_made (number_of result.halt) 22 (pairs22 n member slot (matrix_in known) (matrix_in newest))
+        + if_made (number_of result.halt) 23 pairs23 }
 {
     let row = check_22(known, newest, n, member, slot);
     let mut pairs = row.pairs;
     if !row.passed {
-        return Halt { number: 22, pairs };
+        return Checked {
+            halt: Some(Halt::SlotRow),
+            pairs,
+        };
     }
     let own = check_23(accepted, newest, member, slot);
     pairs += own.pairs;
     if !own.passed {
-        return Halt { number: 23, pairs };
+        return Checked {
+            halt: Some(Halt::OwnCount),
+            pairs,
+        };
     }
     if owner as usize != slot {
-        return Halt { number: 24, pairs };
+        return Checked {
+            halt: Some(Halt::Owner),
+            pairs,
+        };
     }
-    Halt { number: 0, pairs }
+    Checked { halt: None, pairs }
 }
 
 // 25, 26 and 27, in order: the stored matrix and the known one beside the newest.
+#[tactic(auto, unfolding(model::specs::Pairs::if_made), using(crate::proofs::Few::c25, crate::proofs::Few::c26, crate::proofs::Few::c27))]
 pub fn matrix_halt(
     known: [Row; 12],
     accepted: Row,
@@ -212,33 +222,42 @@ pub fn matrix_halt(
     n: usize,
     member: usize,
     slot: usize,
-) -> Halt
+) -> Checked
     requires { (n ≤ 12) × ((Within n member) × (Within n slot)) }
-    ensures number_value { result.number
+    ensures number_value { number_of result.halt
         ≡ cond (not (check25 n slot (matrix_in stored) (matrix_in newest))) 25
         (cond (not (check26 n slot (matrix_in known) (matrix_in newest))) 26
         (cond (not (check27 n member slot (row_in accepted) (matrix_in newest))) 27 0)) }
     ensures pairs_value { result.pairs
-        ≡ if_made result.number 25 (pairs25 n (matrix_in stored) (matrix_in newest))
-        + if_made result.number 26 (pairs26 n slot (matrix_in known) (matrix_in newest))
-        + if_made result.number 27 (pairs27 n member slot (row_in accepted) (matrix_in newest)) }
+        ≡ if_made (number_of result.halt) 25 (pairs25 n (matrix_in stored) (matrix_in newest))
+        + if_made (number_of result.halt) 26 (pairs26 n slot (matrix_in known) (matrix_in newest))
+        + if_made (number_of result.halt) 27 (pairs27 n member slot (row_in accepted) (matrix_in newest)) }
 {
     let below = check_25(stored, newest, n, slot);
     let mut pairs = below.pairs;
     if !below.passed {
-        return Halt { number: 25, pairs };
+        return Checked {
+            halt: Some(Halt::Stored),
+            pairs,
+        };
     }
     let rows = check_26(known, newest, n, slot);
     pairs += rows.pairs;
     if !rows.passed {
-        return Halt { number: 26, pairs };
+        return Checked {
+            halt: Some(Halt::OtherRow),
+            pairs,
+        };
     }
     let entries = check_27(accepted, newest, n, member, slot);
     pairs += entries.pairs;
     if !entries.passed {
-        return Halt { number: 27, pairs };
+        return Checked {
+            halt: Some(Halt::OtherCount),
+            pairs,
+        };
     }
-    Halt { number: 0, pairs }
+    Checked { halt: None, pairs }
 }
 
 // The matrix of the member's own record: in the slot's row the newest record's with the member's own count, elsewhere the larger row.
@@ -254,10 +273,8 @@ pub fn joined_matrix(
     ensures { matrix_within n (matrix_in result) ≡ matrix_within n (joined n member slot count (matrix_in known) (matrix_in newest)) }
 {
     let mut matrix = [Row::ZERO; 12];
-    let mut j = 0;
-    while j < n {
+    for j in 0..n {
         matrix[j] = known[j].larger(newest[j], n);
-        j += 1;
     }
     let at = slot - 1;
     matrix[at] = newest[at].with(member, count);

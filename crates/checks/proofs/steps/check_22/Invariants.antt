@@ -1,4 +1,4 @@
-use Prim.Native.Nat.{ℕ, ◌-◌, ◌≤◌}
+use Prim.Native.Nat.{ℕ, ◌≤◌}
 use mathlib.Core.Bool.{Bool, ◌||◌}
 use lib.Dec.{eqb, leb}
 use Rattle.model.specs.Pairs.{otherwise}
@@ -13,6 +13,3 @@ test i a b k = eqb k i || leb (row_in a k) (row_in b k)
 
 abbrev pub invariant-loop-k : goal.invariant-loop-k
 invariant-loop-k l = (l.k ≤ l.n) × (Walked (test l.member l.a l.b) (otherwise l.member 1) 1 l.k l.pairs)
-
-abbrev pub decreases-loop-k : goal.decreases-loop-k
-decreases-loop-k l = l.n - l.k

@@ -3,13 +3,12 @@ use native.Mathlib.Omega.{arith}
 use lib.ListN.{get_or}
 use Prim.Native.Nat.{◌-◌}
 use Rattle.model.specs.Member.{check23}
-use Rattle.model.specs.Pairs.{pairs23}
 use Rattle.rows.specs.Meaning.{no_row}
 use Rattle.checks.proofs.Matrices.{row_of, count_of}
 use Rattle.checks.proofs.steps.check_23.Goals as goal
 
 pub returns-clause-passed_value : goal.returns-clause-passed_value
-unfolding check23 pairs23
+unfolding check23
 returns-clause-passed_value c =
     let a = c.args in
     rw (
@@ -17,9 +16,3 @@ returns-clause-passed_value c =
       count_of (get_or a.newest (a.slot - 1) no_row) a.member (omega arith) (omega arith),
       count_of a.accepted a.slot (omega arith) (omega arith),
     ) c.equal.ensures.passed_value
-
-pub returns-clause-pairs_value : goal.returns-clause-pairs_value
-unfolding check23 pairs23
-returns-clause-pairs_value c =
-    let a = c.args in
-    c.equal.ensures.pairs_value
