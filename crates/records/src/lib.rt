@@ -27,6 +27,7 @@ pub struct Record {
 
 impl Record {
     // The record of no operation: every part zero.
+    #[tactic(auto, using(crate::proofs::Laws::blank_zero))]
     pub fn zero() -> Record
         ensures { record_in result ≡ zero_record }
     {
@@ -41,6 +42,7 @@ impl Record {
     }
 
     // Are its fields those of a record that came in a message?
+    #[tactic(auto, unfolding(model::specs::Halves::fit_record, crate::specs::Meaning::record_in))]
     pub fn fits(self, n: u32) -> bool
         ensures { result ≡ fit_record n (record_in self) }
     {
@@ -48,6 +50,7 @@ impl Record {
     }
 
     // Does it become the slot's stored record, once it is accepted? It does if it is by the slot's owner, read or write.
+    #[tactic(auto, unfolding(model::specs::Kinds::becomes_stored, crate::specs::Meaning::record_in))]
     pub fn becomes_stored(self) -> bool
         ensures { result ≡ becomes_stored (record_in self) }
     {
@@ -55,12 +58,13 @@ impl Record {
     }
 
     // The opening record of a slot: a write by its owner with count, value and matrix zero.
+    #[tactic(auto, using(crate::proofs::Laws::blank_opening))]
     pub fn opening(slot: u32) -> Record
         ensures { record_in result ≡ openingOf slot }
     {
         Record {
             member: slot,
-            slot: slot,
+            slot,
             operation: WRITE,
             count: 0,
             value: [0; 8],

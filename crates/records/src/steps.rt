@@ -16,6 +16,7 @@ pub const VALUE_AT: usize = 4;
 pub const MATRIX_AT: usize = 12;
 
 // How many words a record has on a board of n.
+#[tactic(auto, unfolding(model::specs::RecordWords::record_size))]
 pub fn record_size(n: usize) -> usize
     requires { n ≤ 12 }
     ensures { result ≡ record_size n }
@@ -28,11 +29,7 @@ pub fn load_value(t: &[u32], at: usize) -> [u32; 8]
     ensures { value_of (words result) ≡ value_of (from (words t.now) at) }
 {
     let mut value = [0u32; 8];
-    let mut i = 0;
-    while i < 8 {
-        value[i] = t[at + i];
-        i += 1;
-    }
+    value.copy_from_slice(&t[at..at + 8]);
     value
 }
 
@@ -41,10 +38,7 @@ fn count_at(t: &[u32], at: usize, n: usize, i: usize) -> u32
     requires { at + n ≤ length t.now }
     ensures { result ≡ cond (ltb i n) (words t.now (at + i)) 0 }
 {
-    if n <= i {
-        return 0;
-    }
-    t[at + i]
+    if i < n { t[at + i] } else { 0 }
 }
 
 // All twelve counts in turn: a loop of n rounds is compiled to a call of memcpy, which costs more than these few words.
@@ -53,10 +47,8 @@ pub fn load_row(t: &[u32], at: usize, n: usize) -> Row
     ensures { row_in result ≡ row_of n (from (words t.now) at) }
 {
     let mut row = Row::ZERO;
-    let mut i = 0;
-    while i < 12 {
+    for i in 0..12 {
         row.counts[i] = count_at(t, at, n, i);
-        i += 1;
     }
     row
 }
@@ -66,15 +58,14 @@ pub fn load_matrix(t: &[u32], at: usize, n: usize) -> [Row; 12]
     ensures { matrix_in result ≡ matrix_of n (from (words t.now) at) }
 {
     let mut matrix = [Row::ZERO; 12];
-    let mut j = 0;
-    while j < n {
+    for j in 0..n {
         matrix[j] = load_row(t, at + j * n, n);
-        j += 1;
     }
     matrix
 }
 
 // The record in the words from `at` on.
+#[tactic(auto, unfolding(model::specs::RecordWords::record_size))]
 pub fn load_record(t: &[u32], at: usize, n: usize) -> Record
     requires { (n ≤ 12) × (at + record_size n ≤ length t.now) }
     ensures { record_in result ≡ record_of n (from (words t.now) at) }
@@ -95,32 +86,26 @@ pub fn store_value(t: &mut [u32], at: usize, value: [u32; 8])
     requires { at + 8 ≤ length t.old }
     ensures { words t.new ≡ pasted at 8 (words value) (words t.old) }
 {
-    let mut i = 0;
-    while i < 8 {
-        t[at + i] = value[i];
-        i += 1;
-    }
+    t[at..at + 8].copy_from_slice(&value);
 }
 
 // Count i of a row of n stored; those past the first n are not.
+#[tactic(auto, using(lists::proofs::Parts::words_set))]
 fn store_count(t: &mut [u32], at: usize, n: usize, i: usize, count: u32)
     requires { at + n ≤ length t.old }
     ensures { words t.new ≡ cond (ltb i n) (put (words t.old) (at + i) count) (words t.old) }
 {
-    if n <= i {
-        return;
+    if i < n {
+        t[at + i] = count;
     }
-    t[at + i] = count;
 }
 
 fn store_row(t: &mut [u32], at: usize, n: usize, row: Row)
     requires { (n ≤ 12) × (at + n ≤ length t.old) }
     ensures { words t.new ≡ pasted at n (words row.counts) (words t.old) }
 {
-    let mut i = 0;
-    while i < 12 {
+    for i in 0..12 {
         store_count(t, at, n, i, row.counts[i]);
-        i += 1;
     }
 }
 
@@ -128,14 +113,13 @@ fn store_matrix(t: &mut [u32], at: usize, n: usize, matrix: [Row; 12])
     requires { (n ≤ 12) × (at + n * n ≤ length t.old) }
     ensures { words t.new ≡ pasted at (n * n) (matrix_word n (matrix_in matrix)) (words t.old) }
 {
-    let mut j = 0;
-    while j < n {
+    for j in 0..n {
         store_row(t, at + j * n, n, matrix[j]);
-        j += 1;
     }
 }
 
 // The record written to the words from `at` on.
+#[tactic(auto, unfolding(model::specs::RecordWords::record_size))]
 pub fn store_record(t: &mut [u32], at: usize, n: usize, r: Record)
     requires { (n ≤ 12) × (at + record_size n ≤ length t.old) }
     ensures { t.new ≡ replaced t.old at (record_words n (record_in r)) }
@@ -150,15 +134,14 @@ pub fn store_record(t: &mut [u32], at: usize, n: usize, r: Record)
     store_matrix(t, at + MATRIX_AT, n, matrix);
 }
 
-// `count` words copied down, from `source` on to `at` on: `at` is not above `source`, so the two runs may overlap.
+// `count` words copied down, from `source` on to `at` on: `at` is not above `source`, so the two runs may overlap. A loop and not
+// `copy_within`, which copies up as well: must-fail/copy_up.edit holds that this function's callers have to copy down.
 pub fn copy_down(t: &mut [u32], at: usize, source: usize, count: usize)
     requires { (at ≤ source) × (source + count ≤ length t.old) }
     ensures { t.new ≡ replaced t.old at (take count (drop source t.old)) }
 {
-    let mut i = 0;
-    while i < count {
+    for i in 0..count {
         t[at + i] = t[source + i];
-        i += 1;
     }
 }
 
@@ -167,23 +150,14 @@ pub fn clear(t: &mut [u32], at: usize, count: usize)
     requires { at + count ≤ length t.old }
     ensures { t.new ≡ replaced t.old at (replicate count 0) }
 {
-    let mut i = 0;
-    while i < count {
-        t[at + i] = 0;
-        i += 1;
-    }
+    t[at..at + count].fill(0);
 }
 
 // Are member, slot and type of the record at `at` in range? 0 is, too.
+#[tactic(auto, unfolding(model::specs::Table::sound_record, model::specs::RecordWords::record_of, lists::specs::Functions::from))]
 pub fn sound_record(t: &[u32], at: usize, n: u32) -> bool
     requires { at + 3 ≤ length t.now }
     ensures { result ≡ sound_record n (record_of n (from (words t.now) at)) }
 {
-    if n < t[at] {
-        return false;
-    }
-    if n < t[at + 1] {
-        return false;
-    }
-    t[at + 2] <= 2
+    t[at] <= n && t[at + 1] <= n && t[at + 2] <= 2
 }

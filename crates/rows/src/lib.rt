@@ -8,13 +8,13 @@ ghost use Rattle.model.specs.Pairs.{row_pairs25};
 ghost use Rattle.rows.specs.Meaning.{row_in, matrix_in, comparison_in};
 
 // A row of a working copy: a count for each of twelve members, the unused ones zero.
-#[derive(Clone, Copy)]
+#[derive(Clone, Copy, Debug, PartialEq, Eq)]
 pub struct Row {
     pub counts: [u32; 12],
 }
 
 // How one row stands to another: below and above are for rows that are not equal.
-#[derive(Clone, Copy)]
+#[derive(Clone, Copy, Debug, PartialEq, Eq)]
 pub enum Comparison {
     Equal,
     Below,
@@ -22,14 +22,14 @@ pub enum Comparison {
     Crossed,
 }
 
-// What a comparison answers, and how many pairs of counts it compared.
+// What a comparison answers, and how many pairs of counts it compared: each answer has its pairs, so no enum and no Option has both.
 #[derive(Clone, Copy)]
 pub struct Compared {
     pub answer: Comparison,
     pub pairs: u32,
 }
 
-// A test of counts: whether it passed, and how many pairs of counts it compared.
+// A test of counts: whether it passed, and how many pairs of counts it compared. A flag, since the pairs count whether it passed or not.
 #[derive(Clone, Copy)]
 pub struct Check {
     pub passed: bool,
@@ -53,18 +53,11 @@ impl Comparison {
     fn by_flags(exceeds: bool, exceeded: bool) -> Comparison
         ensures { comparison_in result ≡ cond exceeds (cond exceeded is_crossed is_above) (cond exceeded is_below is_equal) }
     {
-        if exceeds {
-            if exceeded {
-                Comparison::Crossed
-            } else {
-                Comparison::Above
-            }
-        } else {
-            if exceeded {
-                Comparison::Below
-            } else {
-                Comparison::Equal
-            }
+        match (exceeds, exceeded) {
+            (true, true) => Comparison::Crossed,
+            (true, false) => Comparison::Above,
+            (false, true) => Comparison::Below,
+            (false, false) => Comparison::Equal,
         }
     }
 
@@ -72,38 +65,22 @@ impl Comparison {
     pub fn equal_or_below(self) -> bool
         ensures { result ≡ equal_or_below (comparison_in self) }
     {
-        match self {
-            Comparison::Equal => true,
-            Comparison::Below => true,
-            Comparison::Above => false,
-            Comparison::Crossed => false,
-        }
+        matches!(self, Comparison::Equal | Comparison::Below)
     }
 
     // What check 26 asks.
     pub fn crossed(self) -> bool
         ensures { result ≡ crossed (comparison_in self) }
     {
-        match self {
-            Comparison::Equal => false,
-            Comparison::Below => false,
-            Comparison::Above => false,
-            Comparison::Crossed => true,
-        }
+        matches!(self, Comparison::Crossed)
     }
-}
-
-// The number of entries that a comparison looks at: more than twelve count as twelve.
-fn entries(n: usize) -> usize
-    ensures { result ≡ min n 12 }
-{
-    if n < 12 { n } else { 12 }
 }
 
 impl Row {
     pub const ZERO: Row = Row { counts: [0; 12] };
 
     // The zero row, proved to be it: what the constant above stands for.
+    #[tactic(auto, using(crate::proofs::Laws::zero_row_lem))]
     pub fn zero() -> Row
         ensures { row_in result ≡ zero_row }
     {
@@ -114,10 +91,7 @@ impl Row {
     pub fn with(mut self, member: usize, count: u32) -> Row
         ensures { row_in result ≡ with_count 12 (row_in self) member count }
     {
-        if member < 1 {
-            return self;
-        }
-        if 12 < member {
+        if member < 1 || 12 < member {
             return self;
         }
         let at = member - 1;
@@ -125,29 +99,27 @@ impl Row {
         self
     }
 
-    // How this row stands to the other. All n entries are looked at, and two flags decide at the end.
+    // How this row stands to the other. All n entries are looked at, more than twelve counting as twelve, and two flags decide at the end.
     pub fn compare(self, other: Row, n: usize) -> Compared
         ensures answer_value { comparison_in result.answer ≡ compared (min n 12) (row_in self) (row_in other) }
         ensures pairs_value { result.pairs ≡ min n 12 }
     {
-        let last = entries(n);
         let mut exceeds = false;
         let mut exceeded = false;
         let mut pairs = 0;
-        let mut i = 0;
-        while i < last {
+        for i in 0..n.min(12) {
             let a = self.counts[i];
             let b = other.counts[i];
-            exceeds = exceeds | (b < a);
-            exceeded = exceeded | (a < b);
+            exceeds |= b < a;
+            exceeded |= a < b;
             pairs += 1;
-            i += 1;
         }
         let answer = Comparison::by_flags(exceeds, exceeded);
         Compared { answer, pairs }
     }
 
     // The larger of two rows that are not crossed: the other one where this is equal or below, else this.
+    #[tactic(auto, unfolding(model::specs::Rows::larger), using(crate::proofs::Laws::answer_below))]
     pub fn larger(self, other: Row, n: usize) -> Row
         ensures { row_in result ≡ largerOf (min n 12) (row_in self) (row_in other) }
     {
@@ -161,10 +133,8 @@ pub fn matrix_below(a: [Row; 12], b: [Row; 12], n: usize) -> Check
     ensures passed_value { result.passed ≡ matrix_below (min n 12) (matrix_in a) (matrix_in b) }
     ensures pairs_value { result.pairs ≡ row_pairs25 (min n 12) (matrix_in a) (matrix_in b) }
 {
-    let last = entries(n);
     let mut pairs = 0;
-    let mut j = 0;
-    while j < last {
+    for j in 0..n.min(12) {
         let row = a[j].compare(b[j], n);
         let answer = row.answer;
         pairs += row.pairs;
@@ -174,7 +144,6 @@ pub fn matrix_below(a: [Row; 12], b: [Row; 12], n: usize) -> Check
                 pairs,
             };
         }
-        j += 1;
     }
     Check {
         passed: true,

@@ -1,6 +1,6 @@
 -- `matrix_below` meets its contract: each row passed is below its fellow, and the pairs are those of the rows looked at. Assumes nothing.
 use borrow.Author.Rules.{rules}
-use Prim.Native.Nat.{◌+◌, ◌-◌, ◌<◌, min}
+use Prim.Native.Nat.{◌+◌, ◌<◌, min}
 use mathlib.Core.Path.{◌≡◌}
 use native.Mathlib.Omega.{arith}
 use lib.ListN.{get_or}
@@ -26,48 +26,27 @@ tested c =
     c.equal_or_below.ensures)
 
 pub loop-j-init : goal.loop-j-init
-loop-j-init c = (search rules, (omega arith, walk_starts _ _ 12))
-
-pub returns-then-not-equal_or_below-clause-passed_value : goal.returns-then-not-equal_or_below-clause-passed_value
-unfolding matrix_below row_pairs25
-returns-then-not-equal_or_below-clause-passed_value c =
-    let a = c.args in
-    (walk-stops (test a.n a.a a.b) (cost a.n) 12 c.loop-j.invariant.1.1
-    (tested (goal.at.returns-then-not-equal_or_below-clause-passed_value c).After-equal_or_below)
-    c.compare-row.ensures.pairs_value
-    (min a.n 12) (omega arith) c.if-not-equal_or_below.true-raw).0
-
-pub returns-then-not-equal_or_below-clause-pairs_value : goal.returns-then-not-equal_or_below-clause-pairs_value
-unfolding matrix_below row_pairs25
-returns-then-not-equal_or_below-clause-pairs_value c =
-    let a = c.args in
-    (walk-stops (test a.n a.a a.b) (cost a.n) 12 c.loop-j.invariant.1.1
-    (tested (goal.at.returns-then-not-equal_or_below-clause-pairs_value c).After-equal_or_below) c.compare-row.ensures.pairs_value
-    (min a.n 12) (omega arith) c.if-not-equal_or_below.true-raw).1
+loop-j-init c = walk_starts _ _ 12
 
 pub loop-j-preserved : goal.loop-j-preserved
 loop-j-preserved c =
     let a = c.args in
-    let e = c.compare-row.ensures.pairs_value in (
-      search rules,
-      (
-        search rules,
-        walks-on (test a.n a.a a.b) (cost a.n) 12 c.loop-j.invariant.1.1
-            (tested (goal.at.loop-j-preserved c).After-equal_or_below) e (omega (arith, e))
-            c.if-not-equal_or_below.false-raw,
-      ),
-    )
+    let e = c.compare-row.ensures.pairs_value in
+    walks-on (test a.n a.a a.b) (cost a.n) 12 c.loop-j.invariant (tested (goal.at.loop-j-preserved c).After-equal_or_below) e
+    (omega (arith, e)) (search rules)
 
-pub returns-clause-passed_value : goal.returns-clause-passed_value
+pub returns-then-not-equal_or_below : goal.returns-then-not-equal_or_below
 unfolding matrix_below row_pairs25
-returns-clause-passed_value c =
+returns-then-not-equal_or_below c =
     let a = c.args in
-    let l = c.loop-j in
-    (walk_ends (test a.n a.a a.b) (cost a.n) 12 l.invariant.1.1 (let e : l.j ≡ min a.n 12 = omega arith in e)).0
+    let found = walk-stops (test a.n a.a a.b) (cost a.n) 12 c.loop-j.invariant
+    (tested (goal.at.returns-then-not-equal_or_below c).After-equal_or_below) c.compare-row.ensures.pairs_value
+    (min a.n 12) (omega arith) (search rules) in
+    record { passed_value = found.0; pairs_value = found.1 }
 
-pub returns-clause-pairs_value : goal.returns-clause-pairs_value
+pub returns : goal.returns
 unfolding matrix_below row_pairs25
-returns-clause-pairs_value c =
+returns c =
     let a = c.args in
-    let l = c.loop-j in
-    (walk_ends (test a.n a.a a.b) (cost a.n) 12 l.invariant.1.1 (let e : l.j ≡ min a.n 12 = omega arith in e)).1
+    let found = walk_ends (test a.n a.a a.b) (cost a.n) 12 c.loop-j.invariant (omega arith) in
+    record { passed_value = found.0; pairs_value = found.1 }

@@ -1,5 +1,4 @@
-use Prim.Native.Nat.{ℕ, ◌-◌, ◌≤◌, min}
-use mathlib.Core.Path.{◌≡◌}
+use Prim.Native.Nat.{ℕ, min}
 use mathlib.Core.Bool.{Bool}
 use mathlib.Core.List.{List}
 use Rattle.model.specs.Pairs.{row25}
@@ -16,7 +15,4 @@ abbrev pub test : ℕ → List Row → List Row → ℕ → Bool
 test n a b = row25 (min n 12) (matrix_in a) (matrix_in b)
 
 abbrev pub invariant-loop-j : goal.invariant-loop-j
-invariant-loop-j l = (l.j ≤ l.last) × ((l.last ≡ min l.n 12) × (Walked (test l.n l.a l.b) (cost l.n) 12 l.j l.pairs))
-
-abbrev pub decreases-loop-j : goal.decreases-loop-j
-decreases-loop-j l = l.last - l.j
+invariant-loop-j l = Walked (test l.n l.a l.b) (cost l.n) 12 l.j l.pairs

@@ -1,5 +1,4 @@
 -- `load_matrix` meets its contract: the first j rows are those passed, the others zero. Assumes nothing.
-use borrow.Author.Rules.{rules}
 use Prim.Native.Nat.{ℕ, ◌*◌}
 use mathlib.Core.Path.{◌≡◌, refl, sym, ap, ◌∙◌}
 use native.Mathlib.Omega.{arith}
@@ -15,22 +14,19 @@ use Rattle.rows.proofs.Laws.{zero_rows, matrix_read}
 use Rattle.records.proofs.steps.load_matrix.Goals as goal
 
 pub loop-j-init : goal.loop-j-init
-loop-j-init c = (search rules, (refl, zero_rows ∙ sym (pasted_none 0 _ _)))
+loop-j-init c = record { long = refl; read = zero_rows ∙ sym (pasted_none 0 _ _) }
 
 pub loop-j-preserved : goal.loop-j-preserved
 loop-j-preserved c =
     let a = c.args in
     let l = c.loop-j in
-    let w : ℕ → ℕ = words a.t.now in (
-      search rules,
-      (
-        simp length-set (omega arith),
-        seen_more row_in no_row l.matrix 0 l.j l.j c.load_row.result
-            (λ k. row_of a.n (from (from w a.at) (k * a.n))) zero_matrix
-            l.invariant.1.1 (omega arith) (omega arith)
-            (c.load_row.ensures ∙ ap (row_of a.n) (sym (from_from w a.at (l.j * a.n)))),
-      ),
-    )
+    let w : ℕ → ℕ = words a.t.now in
+    record {
+      long = simp length-set (omega arith);
+      read = seen_more row_in no_row l.matrix 0 l.j l.j c.load_row.result (λ k. row_of a.n (from (from w a.at) (k * a.n))) zero_matrix
+          l.invariant.read (omega arith) (omega arith)
+          (c.load_row.ensures ∙ ap (row_of a.n) (sym (from_from w a.at (l.j * a.n))));
+    }
 
 pub returns : goal.returns
 unfolding matrix_of
@@ -38,5 +34,4 @@ returns c =
     let a = c.args in
     let l = c.loop-j in
     let e : l.j ≡ a.n = omega arith in
-    matrix_read l.matrix a.n (λ k. row_of a.n (from (from (words a.t.now) a.at) (k * a.n))) (omega arith)
-    (rw e at l.invariant.1.1)
+    matrix_read l.matrix a.n (λ k. row_of a.n (from (from (words a.t.now) a.at) (k * a.n))) (omega arith) (rw e at l.invariant.read)

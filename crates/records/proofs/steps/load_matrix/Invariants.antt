@@ -1,4 +1,4 @@
-use Prim.Native.Nat.{◌-◌, ◌*◌, ◌≤◌}
+use Prim.Native.Nat.{◌*◌}
 use mathlib.Core.Path.{◌≡◌}
 use lib.ListN.{length}
 use Rattle.lists.specs.Functions.{from, pasted}
@@ -10,9 +10,7 @@ use Rattle.rows.specs.Meaning.{row_in, no_row}
 use Rattle.records.proofs.steps.load_matrix.Given as goal
 
 abbrev pub invariant-loop-j : goal.invariant-loop-j
-invariant-loop-j l =
-    (l.j ≤ l.n) × ((length l.matrix ≡ 12) ×
-    (seen row_in no_row l.matrix ≡ pasted 0 l.j (λ k. row_of l.n (from (from (words l.t) l.at) (k * l.n))) zero_matrix))
-
-abbrev pub decreases-loop-j : goal.decreases-loop-j
-decreases-loop-j l = l.n - l.j
+invariant-loop-j l = record {
+  long : length l.matrix ≡ 12;
+  read : seen row_in no_row l.matrix ≡ pasted 0 l.j (λ k. row_of l.n (from (from (words l.t) l.at) (k * l.n))) zero_matrix;
+}

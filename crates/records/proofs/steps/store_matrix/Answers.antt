@@ -1,7 +1,6 @@
 -- `store_matrix` meets its contract: j rows are stored. Assumes nothing.
-use borrow.Author.Rules.{rules}
 use Prim.Native.Nat.{◌+◌, ◌*◌}
-use mathlib.Core.Path.{refl, sym, ap, ◌∙◌}
+use mathlib.Core.Path.{sym, ap, ◌∙◌}
 use native.Mathlib.Nat.{zero-mul}
 use native.Mathlib.Omega.{arith}
 use Rattle.lists.specs.Functions.{pasted}
@@ -11,17 +10,12 @@ use Rattle.records.proofs.Laws.{row_stored}
 use Rattle.records.proofs.steps.store_matrix.Goals as goal
 
 pub loop-j-init : goal.loop-j-init
-loop-j-init c = (search rules, (refl, rw zero-mul (sym (pasted_none _ _ _))))
+loop-j-init c = rw zero-mul (sym (pasted_none _ _ _))
 
 pub loop-j-preserved : goal.loop-j-preserved
 loop-j-preserved c =
     let a = c.args in
-    let l = c.loop-j in (
-      search rules,
-      (
-        search rules,
-        c.store_row.ensures
-            ∙ ap (pasted (a.at + l.j * a.n) a.n _) l.invariant.1.1
-            ∙ row_stored a.matrix a.n l.j a.at (words a.t.now) (omega arith) (omega arith),
-      ),
-    )
+    let l = c.loop-j in
+    c.store_row.ensures
+    ∙ ap (pasted (a.at + l.j * a.n) a.n _) l.invariant
+    ∙ row_stored a.matrix a.n l.j a.at (words a.t.now) (omega arith) (omega arith)

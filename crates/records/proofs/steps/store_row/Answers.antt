@@ -1,6 +1,5 @@
 -- `store_row` meets its contract: the counts before the loop's place are stored, and those alone.
-use borrow.Author.Rules.{rules}
-use mathlib.Core.Path.{refl, sym, ap, ◌∙◌}
+use mathlib.Core.Path.{sym, ap, ◌∙◌}
 use Rattle.lists.specs.Functions.{pasted}
 use Rattle.lists.specs.Parts.{words}
 use Rattle.lists.proofs.Functions.{pasted_none}
@@ -12,16 +11,10 @@ loop-i-init c =
     let a = c.args in
     let g = words a.row.counts in
     let w = words a.t.now in
-    (search rules, (refl, sym (pasted_none a.at g w) ∙ ap (λ k. pasted a.at k g w) (none_yet a.n)))
+    sym (pasted_none a.at g w) ∙ ap (λ k. pasted a.at k g w) (none_yet a.n)
 
 pub loop-i-preserved : goal.loop-i-preserved
 loop-i-preserved c =
     let a = c.args in
-    let l = c.loop-i in (
-      search rules,
-      (
-        c.store_count.auto.t ∙ l.invariant.1.0,
-        count_stored l.i a.n a.at (words a.row.counts)
-            (words a.t.now) (words l.t) _ l.invariant.1.1 c.store_count.ensures,
-      ),
-    )
+    let l = c.loop-i in
+    count_stored l.i a.n a.at (words a.row.counts) (words a.t.now) (words l.t) _ l.invariant c.store_count.ensures

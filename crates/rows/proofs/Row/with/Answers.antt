@@ -10,17 +10,15 @@ use Rattle.model.proofs.Rows.{with_count_in, with_count_out}
 use Rattle.rows.specs.Meaning.{row_in}
 use Rattle.rows.proofs.Laws.{count_set}
 use Rattle.rows.proofs.Row.with.Goals as goal
+use Rattle.rows.proofs.Row.with.Goals.{then-member-lt1-via-then-member-lt1, then-member-lt1-via-else-member-lt1+then-member-gt12}
 
 pub returns-then-member-lt1 : goal.returns-then-member-lt1
 returns-then-member-lt1 c =
     let a = c.args in
-    let e : a.member ≡ 0 = omega arith in
-    sym (with_count_out 12 (row_in a.self) a.member a.count (rw e (inside_zero 12)))
-
-pub returns-then-member-gt12 : goal.returns-then-member-gt12
-returns-then-member-gt12 c =
-    let a = c.args in
-    sym (with_count_out 12 (row_in a.self) a.member a.count (inside_above 12 a.member c.if-member-gt12.true))
+    sym (with_count_out 12 (row_in a.self) a.member a.count (elim c.then-member-lt1.branch [
+      | then-member-lt1-via-then-member-lt1 w ↦ let e : a.member ≡ 0 = omega arith in rw e (inside_zero 12)
+      | then-member-lt1-via-else-member-lt1+then-member-gt12 w ↦ inside_above 12 a.member (omega arith)
+    ]))
 
 pub returns : goal.returns
 returns c =
