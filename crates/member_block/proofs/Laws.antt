@@ -5,7 +5,7 @@ use mathlib.Core.Path.{◌≡◌, refl, sym, ap, ap₂, ◌∙◌}
 use mathlib.Core.Bool.{Bool, true, false, cond, not, ◌&&◌, ◌||◌}
 use mathlib.Core.List.{List}
 use mathlib.Core.Option.{some, none}
-use Rattle.std.specs.Prelude.{Option, Some, None}
+use Rattle.std.specs.Prelude.{Option, Some, None, Result, Ok, Err, IsErr}
 use lib.Dec.{eqb, leb}
 use lib.ListN.{take, drop, set, length, length-set}
 use Rattle.lists.specs.Functions.{inside, put, pasted, from, within, Within}
@@ -34,6 +34,8 @@ use Rattle.checks.specs.Halts.{number, number_of}
 use Rattle.rows.specs.declared.Row.{Row}
 use Rattle.rows.specs.Meaning.{matrix_in}
 use Rattle.records.specs.Meaning.{record_in}
+use Rattle.rules.specs.declared.refusal.Refusal.{Refusal}
+use Rattle.member_block.specs.Results.{returned_of}
 use Rattle.member_block.specs.Needs.{Block, Running}
 use Rattle.member_block.specs.Layout.{LayoutOf}
 use Rattle.member_block.specs.declared.layout.Places.{Places}
@@ -241,3 +243,8 @@ pub returned : (n : ℕ) (w : ℕ → ℕ) (won : Bool) → let at = second_at n
 unfolding returned_by member_of record_of
 returned n w true = rw (from_from w (second_at n) value_at)
 returned n w false = refl
+
+-- a refused call returns none
+pub none_returned : (r : Result (Option (List ℕ)) Refusal) → IsErr r → returned_of r ≡ none
+none_returned (Ok value) h = cc
+none_returned (Err refusal) h = refl
