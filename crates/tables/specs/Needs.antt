@@ -1,8 +1,8 @@
 -- What the functions on a table require of it and promise.
-use Rattle.std.specs.Prelude.{ℕ, ◌+◌, ◌≤◌, ◌≡◌, List, length}
+use Rattle.std.specs.Prelude.{ℕ, ◌+◌, ◌≤◌, ◌≡◌, true, List, length}
 use Rattle.lists.specs.Parts.{words}
 use Rattle.model.specs.Board.{Board}
-use Rattle.model.specs.Table.{block_size, block_at, host_at, host_size, table_size, board_of}
+use Rattle.model.specs.Table.{block_size, block_at, host_at, host_size, table_size, board_of, sound_board}
 
 -- a whole table of a board of n
 pub record Table (n : ℕ) (l : List ℕ) : Type 0 where
@@ -10,6 +10,11 @@ pub record Table (n : ℕ) (l : List ℕ) : Type 0 where
   pub most : n ≤ 12
   pub long : length l ≡ table_size n
   pub size : words l 0 ≡ n
+
+-- a table that passed its check
+pub record Sound (n : ℕ) (l : List ℕ) : Type 0 where
+  pub table : Table n l
+  pub sound : sound_board n (board_of n (words l)) ≡ true
 
 -- the table of a board of n that stands for b
 pub record Left (n : ℕ) (b : Board) (l : List ℕ) : Type 0 where

@@ -1,13 +1,15 @@
 // The table's check, which every call makes on the whole table first: numbers 3, 2, 3.
-ghost use Rattle.std.specs.Prelude.{◌≡◌};
+ghost use Rattle.std.specs.Prelude.{◌≡◌, IfOk};
 ghost use Rattle.lists.specs.Functions.{each};
+ghost use Rattle.lists.specs.Parts.{words};
 ghost use Rattle.model.specs.Table.{board_by, sound_member, sound_host, table_number};
-ghost use Rattle.tables.specs.Needs.{Table};
+ghost use Rattle.rules.specs.Refusals.{answer};
+ghost use Rattle.tables.specs.Needs.{Table, Sound};
 
 use crate::steps::{block_at, host_at, table_size};
 use host::steps::{host_size, sound_entries};
 use member_block::steps::{block_size, sound_block};
-use rules::{MOST_MEMBERS, is_numbered};
+use rules::{MOST_MEMBERS, Refusal, is_numbered};
 
 // The n member blocks.
 fn sound_blocks(table: &[u32], n: u32) -> bool
@@ -15,14 +17,12 @@ fn sound_blocks(table: &[u32], n: u32) -> bool
     ensures { result ≡ each n (λ i. sound_member n i ((board_by n table.now).members i)) }
 {
     let size = block_size(n as usize);
-    let mut passed = 0;
-    while passed < n {
+    for passed in 0..n {
         let at = block_at(n as usize, passed as usize + 1);
         let end = at + size;
         if !sound_block(&table[at..end], n, passed + 1) {
             return false;
         }
-        passed += 1;
     }
     true
 }
@@ -37,24 +37,28 @@ fn sound_host(table: &[u32], n: u32) -> bool
     sound_entries(&table[at..end], n)
 }
 
-pub fn table_number(table: &[u32]) -> u32
-    ensures { result ≡ table_number table.now }
+// The table's n, where nothing refuses the table.
+#[tactic(auto, unfolding(model::specs::Table::table_number, model::specs::Table::sound_board))]
+pub fn check_table(table: &[u32]) -> Result<u32, Refusal>
+    ensures number_value { answer result ≡ table_number table.now }
+    ensures size_value { IfOk result (λ n. n ≡ words table.now 0) }
+    ensures sound { IfOk result (λ n. Sound n table.now) }
 {
-    if table.len() == 0 {
-        return 3;
+    if table.is_empty() {
+        return Err(Refusal::Word);
     }
     let n = table[0];
     if !is_numbered(n, MOST_MEMBERS) {
-        return 3;
+        return Err(Refusal::Word);
     }
     if table.len() != table_size(n as usize) {
-        return 2;
+        return Err(Refusal::Length);
     }
     if !sound_blocks(table, n) {
-        return 3;
+        return Err(Refusal::Word);
     }
     if !sound_host(table, n) {
-        return 3;
+        return Err(Refusal::Word);
     }
-    0
+    Ok(n)
 }

@@ -27,37 +27,19 @@ bounds-entry-1 c =
     simp length-set (omega arith)
 
 pub returns-clause-newest_after : goal.returns-clause-newest_after
-unfolding entry_of stored_of
-returns-clause-newest_after c =
-    let a = c.args in
-    let newest = rw c.newest_at.ensures at c.load_record-newest.ensures in
-    let entry = entry_marked a.n a.entry.now a.member a.count c.requires.long in
-    let stored = stored_marked a.n a.entry.now a.member a.count c.requires.long in
-    newest
+unfolding entry_of
+returns-clause-newest_after c = rw c.newest_at.ensures at c.load_record-newest.ensures
 
 pub returns-clause-stored_value : goal.returns-clause-stored_value
-unfolding entry_of stored_of
-returns-clause-stored_value c =
-    let a = c.args in
-    let newest = rw c.newest_at.ensures at c.load_record-newest.ensures in
-    let entry = entry_marked a.n a.entry.now a.member a.count c.requires.long in
-    let stored = stored_marked a.n a.entry.now a.member a.count c.requires.long in
-    c.load_record-stored.ensures
+unfolding stored_of
+returns-clause-stored_value c = c.load_record-stored.ensures
 
 pub returns-clause-after : goal.returns-clause-after
-unfolding entry_of stored_of
 returns-clause-after c =
     let a = c.args in
-    let newest = rw c.newest_at.ensures at c.load_record-newest.ensures in
-    let entry = entry_marked a.n a.entry.now a.member a.count c.requires.long in
-    let stored = stored_marked a.n a.entry.now a.member a.count c.requires.long in
-    entry
+    entry_marked a.n a.entry.now a.member a.count c.requires.long
 
 pub returns-clause-unchanged : goal.returns-clause-unchanged
-unfolding entry_of stored_of
 returns-clause-unchanged c =
     let a = c.args in
-    let newest = rw c.newest_at.ensures at c.load_record-newest.ensures in
-    let entry = entry_marked a.n a.entry.now a.member a.count c.requires.long in
-    let stored = stored_marked a.n a.entry.now a.member a.count c.requires.long in
-    stored
+    stored_marked a.n a.entry.now a.member a.count c.requires.long

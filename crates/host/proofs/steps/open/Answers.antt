@@ -1,5 +1,4 @@
 -- `open` meets its contract: the entries passed are as at first, and each turn lends one more and opens it.
-use borrow.Author.Rules.{rules}
 use Prim.Native.Nat.{◌+◌, ◌<◌, ◌≤◌, ℕ}
 use native.Mathlib.Omega.{arith}
 use mathlib.Core.List.{List}
@@ -22,7 +21,7 @@ slot most long p = record { most = most; long = long; slot_least = omega arith; 
 entry : (c : After-entry_place-at) → Lent c.args.n (c.loop-done.done + 1) c.loop-done.entries c.entry_place-at.result
     c.entry_size-size.result
 entry c =
-    lent (slot c.requires.most c.loop-done.invariant.1.0 c.loop-done-test.true) c.entry_place-at.ensures
+    lent (slot c.requires.most c.loop-done.invariant.0 c.loop-done-test.true) c.entry_place-at.ensures
     c.entry_size-size.ensures
 
 pub loop-done-preserved : goal.loop-done-preserved
@@ -35,13 +34,10 @@ loop-done-preserved c =
     let post = c.open_entry.ensures in
     let host = host-changed h p k ∙ ap (put (host_of n (words l.entries)) (l.done + 1)) post.after in
     let stored = stored-changed h p k ∙ ap (put (stored_records_of n (words l.entries)) (l.done + 1)) post.after_2 in (
-      search rules,
+      length_back h p k,
       (
-        length_back h p k,
-        (
-          rw host (agree_more l.done (host_of n (words l.entries)) opening_entry l.invariant.1.1.0),
-          rw stored (agree_more l.done (stored_records_of n (words l.entries)) opening l.invariant.1.1.1),
-        ),
+        rw host (agree_more l.done (host_of n (words l.entries)) opening_entry l.invariant.1.0),
+        rw stored (agree_more l.done (stored_records_of n (words l.entries)) opening l.invariant.1.1),
       ),
     )
 
@@ -51,7 +47,7 @@ returns-clause-entries_after c =
     let l = c.loop-done in
     let n = c.args.n in
     let e : l.done ≡ n = omega arith in
-    agree_all n no_entry (entry_size n) (entry_of n) (words l.entries) opening_entry (rw e at l.invariant.1.1.0)
+    agree_all n no_entry (entry_size n) (entry_of n) (words l.entries) opening_entry (rw e at l.invariant.1.0)
 
 pub returns-clause-entries_after_2 : goal.returns-clause-entries_after_2
 unfolding opened host_of stored_records_of
@@ -59,4 +55,4 @@ returns-clause-entries_after_2 c =
     let l = c.loop-done in
     let n = c.args.n in
     let e : l.done ≡ n = omega arith in
-    agree_all n zero_record (entry_size n) (stored_of n) (words l.entries) opening (rw e at l.invariant.1.1.1)
+    agree_all n zero_record (entry_size n) (stored_of n) (words l.entries) opening (rw e at l.invariant.1.1)

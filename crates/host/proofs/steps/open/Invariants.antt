@@ -1,4 +1,3 @@
-use Prim.Native.Nat.{◌-◌, ◌≤◌}
 use mathlib.Core.Path.{◌≡◌}
 use lib.ListN.{length}
 use Rattle.lists.specs.Parts.{words}
@@ -10,10 +9,6 @@ use Rattle.host.proofs.steps.open.Given as goal
 
 abbrev pub invariant-loop-done : goal.invariant-loop-done
 invariant-loop-done l =
-    (l.done ≤ l.n)
-    × ((length l.entries ≡ host_size l.n)
+    (length l.entries ≡ host_size l.n)
     × ((Agree l.done (host_of l.n (words l.entries)) opening_entry)
-    × (Agree l.done (stored_records_of l.n (words l.entries)) opening)))
-
-abbrev pub decreases-loop-done : goal.decreases-loop-done
-decreases-loop-done l = l.n - l.done
+    × (Agree l.done (stored_records_of l.n (words l.entries)) opening))

@@ -1,5 +1,4 @@
 -- `sound_entries` meets its contract: the entries before this one passed; this one is lent, and stops the loop or is one more that passed.
-use borrow.Author.Rules.{rules}
 use Prim.Native.Nat.{◌+◌, ◌<◌, ℕ}
 use native.Mathlib.Omega.{arith}
 use mathlib.Core.List.{List}
@@ -16,7 +15,7 @@ slot : {n i : ℕ} {l : List ℕ} → Entries n l → i < n → Slot n (i + 1) l
 slot h p = record { most = h.most; long = h.long; slot_least = omega arith; slot_most = omega arith }
 
 pub loop-passed-init : goal.loop-passed-init
-loop-passed-init c = (search rules, each_none _)
+loop-passed-init c = each_none _
 
 entry : (c : After-entry_place-at) → let a = c.args in
     Lent a.n (c.loop-passed.passed + 1) a.entries.now c.entry_place-at.result c.entry_size-size.result
@@ -33,12 +32,9 @@ returns-then-not-sound_entry c = stops _ _ _ c.loop-passed-test.true
     (judged (goal.at.returns-then-not-sound_entry c).After-sound_entry) c.if-not-sound_entry.true-raw
 
 pub loop-passed-preserved : goal.loop-passed-preserved
-loop-passed-preserved c = (
-  search rules,
-  goes_on c.args.n _ _ c.loop-passed.invariant.1
-      (judged (goal.at.loop-passed-preserved c).After-sound_entry) c.if-not-sound_entry.false-raw,
-)
+loop-passed-preserved c = goes_on c.args.n _ _ c.loop-passed.invariant
+    (judged (goal.at.loop-passed-preserved c).After-sound_entry) c.if-not-sound_entry.false-raw
 
 pub returns : goal.returns
 unfolding sound_host
-returns c = ends _ _ c.loop-passed.passed (omega arith) c.loop-passed.invariant.1
+returns c = ends _ _ c.loop-passed.passed (omega arith) c.loop-passed.invariant

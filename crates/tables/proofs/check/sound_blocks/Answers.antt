@@ -1,5 +1,4 @@
 -- `sound_blocks` meets its contract: the blocks before this one passed; this one is lent, and stops the loop or is one more that passed.
-use borrow.Author.Rules.{rules}
 use Prim.Native.Nat.{◌+◌}
 use mathlib.Core.Path.{◌∙◌, ◌≡◌, ap}
 use Rattle.lists.proofs.Functions.{each_none}
@@ -11,7 +10,7 @@ use Rattle.tables.proofs.check.sound_blocks.Goals as goal
 use Rattle.tables.proofs.check.sound_blocks.Goals.{After-block_at-at, After-sound_block}
 
 pub loop-passed-init : goal.loop-passed-init
-loop-passed-init c = (search rules, each_none _)
+loop-passed-init c = each_none _
 
 lent : (c : After-block_at-at) → let a = c.args in
     BlockLent a.n (c.loop-passed.passed + 1) a.table.now c.block_at-at.result c.block_size-size.result
@@ -27,8 +26,5 @@ returns-then-not-sound_block c = stops _ _ _ c.loop-passed-test.true
     (judged (goal.at.returns-then-not-sound_block c).After-sound_block) c.if-not-sound_block.true-raw
 
 pub loop-passed-preserved : goal.loop-passed-preserved
-loop-passed-preserved c = (
-  search rules,
-  goes_on c.args.n _ _ c.loop-passed.invariant.1 (judged (goal.at.loop-passed-preserved c).After-sound_block)
-      c.if-not-sound_block.false-raw,
-)
+loop-passed-preserved c = goes_on c.args.n _ _ c.loop-passed.invariant
+    (judged (goal.at.loop-passed-preserved c).After-sound_block) c.if-not-sound_block.false-raw
