@@ -37,13 +37,7 @@ pub struct Message {
 
 impl Message {
     // No message: every part zero.
-    #[tactic(
-        auto,
-        unfolding(
-            crate::specs::Meaning::fields_in,
-            crate::specs::Meaning::fields_of
-        )
-    )]
+    #[tactic(auto, unfolding(crate::specs::Meaning::fields_of))]
     pub fn none() -> Message
         ensures { fields_in result ≡ fields_of none }
     {
@@ -72,6 +66,7 @@ pub fn read(bytes: &[u8], n: u32) -> Result<Message, Refusal>
 
 // The writer: the message's bytes to the front of the output, the others left as they were, and how many bytes they are; nothing where it
 // is refused.
+#[tactic(auto, using(crate::proofs::Laws::writing), unfolding(model::specs::Messages::writable, model::specs::Messages::written_to))]
 pub fn write(message: Message, n: u32, out: &mut [u8]) -> Result<usize, Refusal>
     ensures number_value { answer result ≡ number_written n (fields_in message) out.old }
     ensures length_value { IfOk result (λ length. length ≡ length_written n (fields_in message) out.old) }

@@ -12,6 +12,7 @@ use message_numbers::steps::length_of;
 use rules::{MOST_MEMBERS, Refusal, is_fit, is_numbered};
 
 // Are the fields of a message of this kind as number 15 wants them?
+#[tactic(auto, using(crate::proofs::Laws::given), unfolding(model::specs::Messages::fit_given, model::specs::Messages::fit_message))]
 fn fields_fit(kind: MessageKind, message: Message, n: u32) -> bool
     requires { kind_number kind ≡ message.kind }
     ensures { result ≡ fit_given n (message_of (fields_in message)) }
@@ -25,6 +26,7 @@ fn fields_fit(kind: MessageKind, message: Message, n: u32) -> bool
 }
 
 // The message's kind, or what refuses it to an output of `room` bytes. A kind that is none counts as a field.
+#[tactic(auto, using(crate::proofs::Laws::judging), unfolding(model::specs::Messages::write_number, model::specs::Messages::fit_given))]
 pub fn check_fields(message: Message, n: u32, room: usize) -> Result<MessageKind, Refusal>
     ensures number_value { answer result ≡ write_number n (message_of (fields_in message)) room }
     ensures kind_value { IfOk result (λ kind. kind_number kind ≡ message.kind) }

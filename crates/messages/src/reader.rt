@@ -2,8 +2,8 @@
 ghost use Rattle.std.specs.Prelude.{◌≡◌, ◌+◌, ◌≤◌, length};
 ghost use Rattle.lists.specs.Functions.{from};
 ghost use Rattle.lists.specs.Parts.{words};
-ghost use Rattle.model.specs.Messages.{submit, reply, commit, frame_length, record_length, submit_length, fields_at, record_at, number_of};
-ghost use Rattle.model.specs.Messages.{record_from, message_from, read_number};
+ghost use Rattle.model.specs.Messages.{submit, reply, commit, outcome, frame_length, record_length, submit_length, outcome_length};
+ghost use Rattle.model.specs.Messages.{fields_at, record_at, number_of, record_from, message_from, read_number};
 ghost use Rattle.message_numbers.specs.Kinds.{kind_number};
 ghost use Rattle.messages.specs.Meaning.{Holds};
 
@@ -11,6 +11,7 @@ use crate::Message;
 use message_bytes::steps::{FIELDS_AT, RECORD_AT, read_number, read_record, second_at, wide};
 use message_numbers::MessageKind;
 
+#[tactic(auto, unfolding(crate::specs::Meaning::fields_of))]
 fn read_submit(s: &[u8]) -> Message
     requires { frame_length + submit_length ≤ length s.now }
     ensures { let b = words s.now in
@@ -26,6 +27,7 @@ fn read_submit(s: &[u8]) -> Message
     }
 }
 
+#[tactic(auto, unfolding(crate::specs::Meaning::fields_of))]
 fn read_reply(s: &[u8], n: usize) -> Message
     requires { (n ≤ 12) × (record_at + record_length n + record_length n ≤ length s.now) }
     ensures { let b = words s.now in
@@ -39,17 +41,32 @@ fn read_reply(s: &[u8], n: usize) -> Message
     }
 }
 
+#[tactic(auto, unfolding(crate::specs::Meaning::fields_of))]
 fn read_commit(s: &[u8], n: usize) -> Message
     requires { (n ≤ 12) × (record_at + record_length n ≤ length s.now) }
     ensures { Holds result (commit (record_from n (from (words s.now) record_at))) }
 {
+    let record = read_record(s, RECORD_AT, n);
     Message {
         kind: MessageKind::Commit as u32,
-        newest: read_record(s, RECORD_AT, n),
+        newest: record,
         ..Message::none()
     }
 }
 
+#[tactic(auto, unfolding(crate::specs::Meaning::fields_of))]
+fn read_outcome(s: &[u8]) -> Message
+    requires { frame_length + outcome_length ≤ length s.now }
+    ensures { Holds result (outcome (words s.now fields_at)) }
+{
+    Message {
+        kind: MessageKind::Outcome as u32,
+        outcome: wide(s[FIELDS_AT]),
+        ..Message::none()
+    }
+}
+
+#[tactic(auto, using(crate::proofs::Laws::reading), unfolding(model::specs::Messages::length_of, model::specs::Messages::record_length))]
 pub fn read_message(kind: MessageKind, s: &[u8], n: usize) -> Message
     requires { (read_number n s.now ≡ 0) × (kind_number kind ≡ words s.now 3) }
     ensures { Holds result (message_from n (words s.now)) }
@@ -58,10 +75,6 @@ pub fn read_message(kind: MessageKind, s: &[u8], n: usize) -> Message
         MessageKind::Submit => read_submit(s),
         MessageKind::Reply => read_reply(s, n),
         MessageKind::Commit => read_commit(s, n),
-        MessageKind::Outcome => Message {
-            kind: MessageKind::Outcome as u32,
-            outcome: wide(s[FIELDS_AT]),
-            ..Message::none()
-        },
+        MessageKind::Outcome => read_outcome(s),
     }
 }
