@@ -1,5 +1,5 @@
 -- What a call's number says: where it is 0, what its step asks; and the words that the call then leaves.
-use Prim.Native.Nat.{ℕ}
+use Prim.Native.Nat.{ℕ, ◌≤◌}
 use mathlib.Core.Path.{◌≡◌, refl, sym, ap, ◌∙◌}
 use mathlib.Core.Bool.{Bool, true, false, cond, not, ◌&&◌, ◌||◌}
 use mathlib.Core.List.{List}
@@ -10,8 +10,8 @@ use borrow.Author.Tests.{eqb-true, leb-true, not-false}
 use Rattle.lists.specs.Functions.{inside, Within}
 use Rattle.lists.specs.Parts.{words}
 use Rattle.lists.proofs.Functions.{first, second, neither, inside_low, inside_high}
-use Rattle.lists.proofs.Refusals.{no_ground, no_failure, no_number, number_refuses, number_passes, regrouped, becomes}
-use Rattle.model.specs.Records.{Rec}
+use Rattle.lists.proofs.Refusals.{no_ground, no_failure, no_number, becomes}
+use Rattle.model.specs.Records.{Rec, record_within}
 use Rattle.model.specs.Kinds.{barred}
 use Rattle.model.specs.Member.{Member}
 use Rattle.model.specs.Table.{block_size, member_of, member_words, sound_record, sound_operation, sound_member, block_number}
@@ -21,15 +21,7 @@ use Rattle.model.specs.Halves.{member_crash_number}
 use Rattle.laws.proofs.Blocks.{member_back}
 use Rattle.member_block.specs.Needs.{Block, Running}
 use Rattle.member_block.proofs.Begins.{within}
-
--- A call's number that also makes the test of number 10: refused by it, or answered by the grounds behind it.
-pub refused_waiting : {number : ℕ} (a : ℕ) (t : Bool) (b : ℕ) → number ≡ or_else a (cond t 10 0) → (number ≡ 0 → ⊥)
-    → number ≡ or_else a (cond t 10 b)
-refused_waiting a t b e h = number_refuses b e h ∙ regrouped a t 10 b (omega arith)
-
-pub passed_waiting : {number r : ℕ} (a : ℕ) (t : Bool) (b : ℕ) → number ≡ or_else a (cond t 10 0) → number ≡ 0 → r ≡ b
-    → r ≡ or_else a (cond t 10 b)
-passed_waiting a t b e z h = number_passes e z h ∙ regrouped a t 10 b (omega arith)
+use Rattle.member_block.proofs.Sizes.{rooms}
 
 -- 1, 2, 3: a sound block of a board of n
 pub record Lent (n i : ℕ) (l : List ℕ) : Type 0 where
@@ -48,6 +40,9 @@ lent n i l h =
       sound = p3.0;
     }
 
+pub lent_block : (n i : ℕ) (l : List ℕ) → 0 ≡ lent_number n i l → Block n l
+lent_block n i l h = (lent n i l (sym h)).block
+
 -- and 4: of member i
 pub record Good (n i : ℕ) (l : List ℕ) : Type 0 where
   pub block : Block n l
@@ -60,6 +55,12 @@ good n i l h =
     let g = no_number (lent_number n i l) h in
     let b = lent n i l g.0 in
     record { block = b.block; sound = b.sound; member = within n i (no_failure (inside n i) (omega arith) g.1).0 }
+
+pub member_block : (n i : ℕ) (l : List ℕ) → 0 ≡ member_number n i l → Block n l
+member_block n i l h = (good n i l (sym h)).block
+
+pub head : (n i : ℕ) (l : List ℕ) → 0 ≡ member_number n i l → 2 ≤ length l
+head n i l h = let b = member_block n i l h in omega (arith, rooms n)
 
 -- a sound member in phase 1 to 5 runs an operation on a slot
 fourth_and_sixth : (a b c d e f g h : Bool) → (a && b && c && d && e && f && g && h) ≡ true → (d ≡ true) × (f ≡ true)
@@ -82,6 +83,11 @@ sound_slot_lem n i m p q = record {
 running : (n i : ℕ) (l : List ℕ) → Good n i l → inside 5 (member_of n (words l)).phase ≡ true → Running n l
 running n i l g h = record { block = g.block; slot = sound_slot_lem n i (member_of n (words l)) g.sound h }
 
+-- The fields of a record on a board of n are its own.
+pub fields_within : (n : ℕ) (r : Rec) → fit_record n (record_within n r) ≡ fit_record n r
+unfolding fit_record record_within
+fields_within n r = refl
+
 -- What each call's step asks.
 
 -- taking a message, in phase p
@@ -99,21 +105,21 @@ waiting_good n i l p tail h e =
     let g = good n i l z.0 in
     (running n i l g (rw (waits p m (no_ground (not_waiting p m) (omega arith) z.1).0) h), g.member)
 
-pub reply_good : (n i : ℕ) (l : List ℕ) (newest stored : Rec) (seals : ℕ) → reply_number n i l newest stored seals ≡ 0
+pub reply_good : (n i : ℕ) (l : List ℕ) (newest stored : Rec) (seals : ℕ) → 0 ≡ reply_number n i l newest stored seals
     → (Running n l) × (Within n i)
 unfolding reply_number inside
 reply_good n i l newest stored seals h =
-    waiting_good n i l 1 (cond (not (leb seals 3 && (fit_record n newest && fit_record n stored))) 15 0) refl h
+    waiting_good n i l 1 (cond (not (leb seals 3 && (fit_record n newest && fit_record n stored))) 15 0) refl (sym h)
 
-pub outcome_good : (n i : ℕ) (l : List ℕ) (result : ℕ) → outcome_number n i l result ≡ 0 → Running n l
+pub outcome_good : (n i : ℕ) (l : List ℕ) (result : ℕ) → 0 ≡ outcome_number n i l result → Running n l
 unfolding outcome_number inside
-outcome_good n i l result h = (waiting_good n i l 3 (cond (not (inside 2 result)) 15 0) refl h).0
+outcome_good n i l result h = (waiting_good n i l 3 (cond (not (inside 2 result)) 15 0) refl (sym h)).0
 
-pub crash_good : (n i : ℕ) (l : List ℕ) → member_crash_number n i l ≡ 0 → Block n l
+pub crash_good : (n i : ℕ) (l : List ℕ) → 0 ≡ member_crash_number n i l → Block n l
 unfolding member_crash_number
-crash_good n i l h = (good n i l (no_number (member_number n i l) h).0).block
+crash_good n i l h = (good n i l (no_number (member_number n i l) (sym h)).0).block
 
 -- What a call that is done leaves: the words of what its step makes.
-pub words_made : (n : ℕ) {k : ℕ} (before after : List ℕ) (m : Member) → k ≡ 0 → length after ≡ block_size n → member_of n (words after) ≡ m
+pub words_made : (n : ℕ) {k : ℕ} (before after : List ℕ) (m : Member) → 0 ≡ k → length after ≡ block_size n → member_of n (words after) ≡ m
     → after ≡ unless_refused k before (member_words n m)
-words_made n before after m z h e = becomes before (member_words n m) z (sym (member_back n after h) ∙ ap (member_words n) e)
+words_made n before after m z h e = becomes before (member_words n m) (sym z) (sym (member_back n after h) ∙ ap (member_words n) e)

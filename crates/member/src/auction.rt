@@ -4,9 +4,10 @@ ghost use Rattle.lists.specs.Parts.{words};
 ghost use Rattle.model.specs.Kinds.{auction};
 ghost use Rattle.model.specs.RecordWords.{value_of};
 ghost use Rattle.model.specs.Halves.{member_begin_number, member_begin_words};
+ghost use Rattle.rules.specs.Refusals.{answer};
 
 use crate::kinds::begin_by;
-use rules::{AUCTION_LIMIT, AUCTION_MEMBERS};
+use rules::{Kind, Refusal};
 
 pub fn begin(
     block: &mut [u32],
@@ -15,18 +16,9 @@ pub fn begin(
     slot: u32,
     operation: u32,
     value: [u32; 8],
-) -> u32
-    ensures value { result ≡ member_begin_number auction n member block.old slot operation }
+) -> Result<(), Refusal>
+    ensures value { answer result ≡ member_begin_number auction n member block.old slot operation }
     ensures block_after { block.new ≡ member_begin_words auction n member block.old slot operation (value_of (words value)) }
 {
-    begin_by(
-        block,
-        AUCTION_LIMIT,
-        AUCTION_MEMBERS,
-        n,
-        member,
-        slot,
-        operation,
-        value,
-    )
+    begin_by(block, Kind::AUCTION, n, member, slot, operation, value)
 }

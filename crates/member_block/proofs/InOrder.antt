@@ -1,6 +1,6 @@
 -- The chain of a reply's checks in two parts, as the code has it: the number, and the pairs of the checks made.
 use Prim.Native.Nat.{ℕ, ◌+◌}
-use mathlib.Core.Path.{◌≡◌, refl, ◌∙◌}
+use mathlib.Core.Path.{◌≡◌, refl, sym, ap, ap₂, ◌∙◌}
 use mathlib.Core.Bool.{Bool, true, false, cond, not}
 use mathlib.Core.List.{List}
 use native.Mathlib.Omega.{arith}
@@ -63,14 +63,10 @@ went_on_pairs true true false p22 p25 p26 p27 = omega arith
 went_on_pairs true true true p22 p25 p26 p27 = omega arith
 
 -- A reply whose seals did not hold: no count is compared.
-module _ (n i : ℕ) (m : Member) (newest stored : Rec) (seals : ℕ) where
-  pub unsealed : (seals ≡ 3 → ⊥) → halt_number n i m newest stored seals ≡ 21
-  unfolding halt_number check21
-  unsealed h = rw (ne_eqb seals 3 h)
-
-  pub unsealed_pairs : (seals ≡ 3 → ⊥) → halt_pairs n i m newest stored seals ≡ 0
-  unfolding halt_pairs if_made
-  unsealed_pairs h = rw (unsealed h)
+pub unsealed : (n i : ℕ) (m : Member) (newest stored : Rec) (seals : ℕ) → (seals ≡ 3 → ⊥)
+    → (halt_number n i m newest stored seals ≡ 21) × (halt_pairs n i m newest stored seals ≡ 0)
+unfolding halt_number check21 halt_pairs if_made
+unsealed n i m newest stored seals h = (rw (ne_eqb seals 3 h), rw (ne_eqb seals 3 h))
 
 -- A reply whose seals held, by the block's words w and by what the code holds.
 module _ (n i : ℕ) (w : ℕ → ℕ) (known : List Row) (accepted : Row) (newest stored : Record) where
@@ -125,23 +121,31 @@ module _ (n i : ℕ) (w : ℕ → ℕ) (known : List Row) (accepted : Row) (newe
     abbrev pairs : ℕ
     pairs = halt_pairs n i (member_of n w) (record_in newest) (record_in stored) seals
 
-    number-by-parts : number ≡ three 22 23 24 pass22 pass23 pass24 matrix_number
+    number_by_parts : number ≡ three 22 23 24 pass22 pass23 pass24 matrix_number
     unfolding halt_number member_of record_in check21 check24
-    number-by-parts = rw (eq-eqb seals 3 held, p, q)
+    number_by_parts = rw (eq-eqb seals 3 held, p, q)
 
-    pairs-by-parts : {halt : ℕ} → number ≡ halt → pairs ≡ sums look22 look25 look26 look27 halt
+    pairs_by_parts : {halt : ℕ} → number ≡ halt → pairs ≡ sums look22 look25 look26 look27 halt
     unfolding halt_pairs member_of record_in
-    pairs-by-parts e = rw (e, p, q)
+    pairs_by_parts e = rw (e, p, q)
 
-    -- the first part says it
-    pub slot-stops : (slot_number ≡ 0 → ⊥) → (number ≡ slot_number) × (pairs ≡ slot_sum look22 slot_number)
-    slot-stops h =
-        let e = number-by-parts ∙ stopped pass22 pass23 pass24 matrix_number h in
-        (e, pairs-by-parts e ∙ stopped_pairs pass22 pass23 pass24 look22 look25 look26 look27 h)
+    -- the first part, which found h after j pairs, says it
+    pub slot_stops : {h j : ℕ} → h ≡ slot_number → j ≡ slot_sum look22 h → (h ≡ 0 → ⊥) → (h ≡ number) × (j ≡ pairs)
+    slot_stops e f some =
+        let z : slot_number ≡ 0 → ⊥ = λ h. some (e ∙ h) in
+        let k = number_by_parts ∙ stopped pass22 pass23 pass24 matrix_number z in (
+          e ∙ sym k,
+          f
+              ∙ ap (slot_sum look22) e
+              ∙ sym (pairs_by_parts k ∙ stopped_pairs pass22 pass23 pass24 look22 look25 look26 look27 z),
+        )
 
-    -- the second part does
-    pub slot-passes : slot_number ≡ 0
-        → (number ≡ matrix_number) × (pairs ≡ slot_sum look22 0 + matrix_sum look25 look26 look27 matrix_number)
-    slot-passes h =
-        let e = number-by-parts ∙ went_on pass22 pass23 pass24 matrix_number h in
-        (e, pairs-by-parts e ∙ went_on_pairs pass25 pass26 pass27 look22 look25 look26 look27)
+    -- the second part, which found k after l more, does
+    pub slot_passes : {h j k l : ℕ} → h ≡ slot_number → j ≡ slot_sum look22 h → h ≡ 0 → k ≡ matrix_number
+        → l ≡ matrix_sum look25 look26 look27 k → (k ≡ number) × (j + l ≡ pairs)
+    slot_passes e f none g m =
+        let s = number_by_parts ∙ went_on pass22 pass23 pass24 matrix_number (sym e ∙ none) in (
+          g ∙ sym s,
+          ap₂ (λ x y. x + y) (f ∙ ap (slot_sum look22) none) (m ∙ ap (matrix_sum look25 look26 look27) g)
+              ∙ sym (pairs_by_parts s ∙ went_on_pairs pass25 pass26 pass27 look22 look25 look26 look27),
+        )

@@ -2,40 +2,70 @@
 use Prim.Native.Nat.{ℕ, ◌+◌, ◌-◌, ◌*◌, ◌≤◌, ◌<◌}
 use native.Mathlib.Omega.{arith}
 use mathlib.Core.Path.{◌≡◌, refl, sym, ap, ap₂, ◌∙◌}
-use mathlib.Core.Bool.{Bool, true, false, ◌&&◌}
+use mathlib.Core.Bool.{Bool, true, false, cond, not, ◌&&◌, ◌||◌}
 use mathlib.Core.List.{List}
-use mathlib.Core.Option.{none}
-use lib.Dec.{eqb}
-use borrow.Author.Tests.{eq-eqb, ne_eqb}
-use lib.ListN.{take, drop, set}
-use Rattle.lists.specs.Functions.{put, pasted, from, within, Within}
+use mathlib.Core.Option.{some, none}
+use Rattle.std.specs.Prelude.{Option, Some, None, Result, Ok, Err, IsErr}
+use lib.Dec.{eqb, leb}
+use lib.ListN.{take, drop, set, length, length-set}
+use Rattle.lists.specs.Functions.{inside, put, pasted, from, within, Within}
 use Rattle.lists.specs.Parts.{words, replaced}
-use Rattle.lists.proofs.Functions.{apart, put_at, put_off, from_from, from_pasted_at}
-use Rattle.model.specs.Records.{Rec, read, zero_value, matrix_within, record_within}
+use Rattle.lists.proofs.Functions.{put_at, put_off, from_from, from_pasted_at}
+use Rattle.model.specs.Kinds.{barred}
+use Rattle.model.specs.Records.{Rec, matrix_within, record_within}
 use Rattle.model.specs.RecordWords.{value_at, matrix_at, record_size, row_of, matrix_of, value_of, record_of, record_words}
 use Rattle.model.specs.Member.{Member, moved, halt_number, joined, own_record, passed, failed, replied, completed, dropped, took_over}
-use Rattle.model.specs.Member.{returned_by}
+use Rattle.model.specs.Member.{judged, crashed_of}
+use Rattle.model.specs.Member.{outcome, returned_by}
 use Rattle.model.specs.Pairs.{halt_pairs, most_pairs}
 use Rattle.model.proofs.PairClaims.{pairs_as_asked}
 use Rattle.model.specs.Board.{sent_record}
 use Rattle.model.specs.Table.{phase_at, halt_at, slot_at, operation_at, own_at, accepted_at, last_at, pending_at, known_at}
 use Rattle.model.specs.Table.{first_at, second_at}
-use Rattle.model.specs.Table.{block_size, member_of}
+use Rattle.model.specs.Table.{sound_member, sound_operation, sound_record}
+use Rattle.model.specs.Table.{block_size, member_of, member_in, crashed_at}
 use Rattle.laws.proofs.Records.{square_small, record_of_parts, record_of-same, record_of-words, within_read}
 use Rattle.laws.proofs.Replies.{matrix_all, value_all, joined_within, halt_number-within, halt_pairs-within}
-use Rattle.laws.proofs.Steps.{Holds, holds_set, holds_copied, count_of, kept, moved_by, pasted_off}
+use Rattle.laws.proofs.Steps.{Holds, holds_set, holds_copied, count_of, kept, moved_by, pasted_off, judged_by_lem, crashed_by}
+use Rattle.member_block.proofs.Sizes.{rooms}
+use Rattle.checks.specs.declared.halt.Halt.{Halt}
+use Rattle.checks.specs.declared.halt.Halt.TheVariants.{Seal, SlotRow, OwnCount, Owner, Stored, OtherRow, OtherCount}
+use Rattle.checks.specs.Halts.{number, number_of}
 use Rattle.rows.specs.declared.Row.{Row}
 use Rattle.rows.specs.Meaning.{matrix_in}
 use Rattle.records.specs.Meaning.{record_in}
+use Rattle.rules.specs.declared.refusal.Refusal.{Refusal}
+use Rattle.member_block.specs.Results.{returned_of}
 use Rattle.member_block.specs.Needs.{Block, Running}
 use Rattle.member_block.specs.Layout.{LayoutOf}
 use Rattle.member_block.specs.declared.layout.Places.{Places}
-use Rattle.member_block.specs.declared.Outcome.{Outcome}
-use Rattle.member_block.specs.Results.{Taken, returned_in}
 
 -- the block that a step is given
 pub whole : {n : ℕ} {l : List ℕ} → Block n l → Holds (block_size n) l (words l)
 whole b = record { long = b.long; same = refl }
+
+pub set_long : (l : List ℕ) (i x : ℕ) → length (set l i x) ≡ length l
+set_long l i x = length-set l i x
+
+-- One word stored: the verdict's phase, and the crash mark.
+
+pub judged_set : {n : ℕ} {l : List ℕ} → Block n l → (won : Bool) → member_in n (set l phase_at (cond won 4 5)) ≡ judged (member_in n l) won
+judged_set {n} {l} b won =
+    ap (member_of n) (holds_set (whole b) phase_at (cond won 4 5) (omega (arith, rooms n))).same ∙ judged_by_lem n (words l) won
+
+pub crashed_set : {n : ℕ} {l : List ℕ} → Block n l → member_in n (set l crashed_at 1) ≡ crashed_of (member_in n l)
+crashed_set {n} {l} b = ap (member_of n) (holds_set (whole b) crashed_at 1 (omega (arith, rooms n))).same ∙ crashed_by n (words l)
+
+-- The block's check, by its words.
+pub sound_by_words : (n i : ℕ) (w : ℕ → ℕ) → sound_member n i (member_of n w)
+    ≡ ((leb (w phase_at) 6 && leb (w crashed_at) 1 && (eqb (w halt_at) 0 || leb 21 (w halt_at) && leb (w halt_at) 27))
+    && leb (w slot_at) n
+    && leb (w operation_at) 2
+    && (not (inside 5 (w phase_at)) || leb 1 (w slot_at) && leb 1 (w operation_at) && not (barred i (w slot_at) (w operation_at)))
+    && sound_record n (record_of n (from w (first_at n)))
+    && sound_record n (record_of n (from w (second_at n))))
+unfolding sound_member sound_operation member_of
+sound_by_words n i w = refl
 
 -- An accepted operation: its count and its matrix taken over, then for a write its value.
 
@@ -59,11 +89,6 @@ unfolding block_size second_at first_at known_at pending_at last_at accepted_at
 last_held {at = at} h lay m e =
     let v = holds_copied h m at.last at.pending 8 e (omega arith) (omega arith) in
     record { long = v.long; same = v.same ∙ rw (lay.last, lay.pending) }
-
--- what `completed` does: take over, then drop
-pub completed_by : (m : Member) → completed m ≡ dropped (took_over m)
-unfolding completed dropped took_over
-completed_by m = refl
 
 -- the first message record written, and the phase
 pub first_noted_by : (n : ℕ) (w : ℕ → ℕ) (phase : ℕ) (first : Rec)
@@ -99,10 +124,16 @@ pub known_loaded : (n : ℕ) (w : ℕ → ℕ) (known : List Row) {at : Places} 
 unfolding member_of
 known_loaded n w known lay e = e ∙ ap (λ k. matrix_of n (from w k)) lay.known
 
--- a record, loaded from its place
-pub record_loaded : (n : ℕ) (w : ℕ → ℕ) {a b : ℕ} {r : Rec} → a ≡ b → r ≡ record_of n (from w a)
-    → record_within n r ≡ record_of n (from w b)
-record_loaded n w {a} {b} e h = ap (record_within n) (h ∙ ap (λ k. record_of n (from w k)) e) ∙ within_read n (from w b)
+-- the message records, loaded from theirs
+pub first_loaded : (n : ℕ) (w : ℕ → ℕ) (r : Rec) {at : Places} → LayoutOf n at → r ≡ record_of n (from w at.first)
+    → record_within n r ≡ (member_of n w).first
+unfolding member_of
+first_loaded n w r lay e = ap (record_within n) (e ∙ ap (λ k. record_of n (from w k)) lay.first) ∙ within_read n (from w (first_at n))
+
+pub second_loaded : (n : ℕ) (w : ℕ → ℕ) (r : Rec) {at : Places} → LayoutOf n at → r ≡ record_of n (from w at.second)
+    → record_within n r ≡ (member_of n w).second
+unfolding member_of
+second_loaded n w r lay e = ap (record_within n) (e ∙ ap (λ k. record_of n (from w k)) lay.second) ∙ within_read n (from w (second_at n))
 
 -- The record that a member commits, as the code builds it, and what taking a reply comes to.
 
@@ -129,23 +160,34 @@ own_built n i w newest value known matrix a b e k f = λ t. record {
     same : w (own_at + w slot_at - 1) ≡ row_of n (from w own_at) (w slot_at)
     same = sym (count_of n w own_at (w slot_at) b.least b.most)
 
-module _ {n i : ℕ} {l : List ℕ} (running : Running n l) (member : Within n i) (newest stored : Rec) (seals number : ℕ)
-    (e : number ≡ halt_number n i (member_of n (words l)) newest stored seals) where
-  halted : number ≡ halt_number n i (member_of n (words l)) (record_within n newest) (record_within n stored) seals
+-- a check that failed has a number
+numbered : (h : Halt) → eqb (number h) 0 ≡ false
+numbered Seal = refl
+numbered SlotRow = refl
+numbered OwnCount = refl
+numbered Owner = refl
+numbered Stored = refl
+numbered OtherRow = refl
+numbered OtherCount = refl
+
+module _ {n i : ℕ} {l : List ℕ} (running : Running n l) (member : Within n i) (newest stored : Rec) (seals : ℕ) (halt : Option Halt)
+    (e : number_of halt ≡ halt_number n i (member_of n (words l)) newest stored seals) where
+  halted : number_of halt ≡ halt_number n i (member_of n (words l)) (record_within n newest) (record_within n stored) seals
   halted =
       let r = running.slot in
       e ∙ sym (halt_number-within n i (member_of n (words l)) newest stored seals member.least member.most r.least r.most)
 
-  pub replied_failed : (number ≡ 0 → ⊥)
-      → replied n i (member_of n (words l)) (record_within n newest) (record_within n stored) seals ≡ failed (member_of n (words l)) number
+  pub replied_failed : {h : Halt} → halt ≡ Some h
+      → replied n i (member_of n (words l)) (record_within n newest) (record_within n stored) seals
+      ≡ failed (member_of n (words l)) (number h)
   unfolding replied
-  replied_failed h = rw (← halted, ne_eqb number 0 h)
+  replied_failed {h} is = rw (← halted, is, numbered h)
 
-  pub replied_passed : number ≡ 0
+  pub replied_passed : halt ≡ None
       → replied n i (member_of n (words l)) (record_within n newest) (record_within n stored) seals
       ≡ passed n i (member_of n (words l)) (record_within n newest) (record_within n stored)
   unfolding replied
-  replied_passed h = rw (← halted, eq-eqb number 0 h)
+  replied_passed is = rw (← halted, is)
 
 -- the pairs that the checks compared, of the records as a board of n has them
 pub replied_pairs : {n i : ℕ} {l : List ℕ} → Running n l → Within n i → (newest stored : Rec) (seals : ℕ)
@@ -189,18 +231,20 @@ sent_built n i w value matrix lay b e f = λ t. record {
   matrix = ((rw lay.first at f) ∙ sym (ap (λ r. r.matrix) (record_of_parts n w (first_at n)))) t;
 }
 
--- What taking an outcome hands back.
+-- What taking an outcome comes to, and what it hands back.
 
-pub second_value : (n : ℕ) (w : ℕ → ℕ) → value_of (from w (second_at n + value_at)) ≡ (member_of n w).second.value
-unfolding member_of record_of
-second_value n w = ap value_of (sym (from_from w (second_at n) value_at))
+pub ended : (m : Member) (won : Bool) → outcome m won ≡ dropped (cond won (took_over m) m)
+unfolding outcome completed dropped took_over
+ended m true = refl
+ended m false = refl
 
-pub none_taken : (m : Member) (won : Bool) → (won && eqb m.operation read) ≡ false → {r : Outcome}
-    → (r.number ≡ 0) × ((returned_in r ≡ none) × (value_of (words r.value) ≡ zero_value)) → Taken r (returned_by m won)
-unfolding returned_by
-none_taken m won h p = record { number = p.0; value = rw h p.1.0; blank = λ e. p.1.1 }
+pub returned : (n : ℕ) (w : ℕ → ℕ) (won : Bool) → let at = second_at n + value_at in
+    returned_by (member_of n w) won ≡ cond won (cond (eqb (w operation_at) 1) (some (value_of (from w at))) none) none
+unfolding returned_by member_of record_of
+returned n w true = rw (from_from w (second_at n) value_at)
+returned n w false = refl
 
-pub value_taken : (m : Member) (value : List ℕ) → eqb m.operation read ≡ true → value_of (words value) ≡ m.second.value
-    → Taken (record { number = 0; returned = true; value = value }) (returned_by m true)
-unfolding returned_by returned_in
-value_taken m value h e = record { number = refl; value = rw (h, e); blank = λ d. absurd (apart refl d) }
+-- a refused call returns none
+pub none_returned : (r : Result (Option (List ℕ)) Refusal) → IsErr r → returned_of r ≡ none
+none_returned (Ok value) h = cc
+none_returned (Err refusal) h = refl

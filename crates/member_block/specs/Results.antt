@@ -1,16 +1,16 @@
--- What taking an outcome hands back, as the struct holds it.
-use Rattle.std.specs.Prelude.{◌≡◌, cond, false}
+-- What taking an outcome hands back, as the code has it: the value that is returned, if there is one.
+use Rattle.std.specs.Prelude.{List, ℕ, Result, Ok, Err, Option as Returned, Some, None}
 use Rattle.std.proofs.Math.Option.{Option, none, some}
 use Rattle.lists.specs.Parts.{words}
-use Rattle.model.specs.Records.{Value, zero_value}
+use Rattle.model.specs.Records.{Value}
 use Rattle.model.specs.RecordWords.{value_of}
-use Rattle.member_block.specs.declared.Outcome.{Outcome}
+use Rattle.rules.specs.declared.refusal.Refusal.{Refusal}
 
-unfoldable pub returned_in : Outcome → Option Value
-returned_in r = cond r.returned (some (value_of (words r.value))) none
+abbrev pub returned_in : Returned (List ℕ) → Option Value
+returned_in None = none
+returned_in (Some w) = some (value_of (words w))
 
--- an outcome that was taken: number 0, the value that is returned if there is one, and zero if there is none
-pub record Taken (r : Outcome) (returned : Option Value) : Type 0 where
-  pub number : r.number ≡ 0
-  pub value : returned_in r ≡ returned
-  pub blank : r.returned ≡ false → value_of (words r.value) ≡ zero_value
+-- of a call that takes an outcome: nothing is returned where it is refused
+abbrev pub returned_of : Result (Returned (List ℕ)) Refusal → Option Value
+returned_of (Ok r) = returned_in r
+returned_of (Err refusal) = none

@@ -7,15 +7,18 @@ ghost use Rattle.lists.specs.Functions.{Within};
 ghost use Rattle.rows.specs.Meaning.{matrix_in};
 ghost use Rattle.records.specs.Meaning.{record_in};
 ghost use Rattle.member_block.specs.Needs.{Running};
+ghost use Rattle.checks.specs.Halts.{number_of};
 
 use crate::layout::{SLOT_AT, layout};
-use checks::steps::{Halt, matrix_halt, slot_halt};
+use checks::halt::Halt;
+use checks::steps::{Checked, matrix_halt, slot_halt};
 use records::Record;
 use records::steps::load_row;
 use rows::Row;
 
-// The number of the first check that fails, 0 where the reply passes, and the pairs compared until then. The known matrix is handed in,
-// since the member's own record needs it too.
+// The first check that fails, if any, and the pairs compared until then. The known matrix is handed in, since the member's own record
+// needs it too.
+#[tactic(auto, using(crate::proofs::Sizes::rooms, crate::proofs::Sizes::running_slot, crate::proofs::InOrder::unsealed))]
 pub fn halt_of(
     block: &[u32],
     n: usize,
@@ -24,14 +27,15 @@ pub fn halt_of(
     newest: Record,
     stored: Record,
     seals: u32,
-) -> Halt
+) -> Checked
     requires { (Running n block.now) × ((Within n member) × (matrix_in known ≡ (member_in n block.now).known)) }
-    ensures number_value { result.number ≡ halt_number n member (member_in n block.now) (record_in newest) (record_in stored) seals }
+    ensures number_value { number_of result.halt
+        ≡ halt_number n member (member_in n block.now) (record_in newest) (record_in stored) seals }
     ensures pairs_value { result.pairs ≡ halt_pairs n member (member_in n block.now) (record_in newest) (record_in stored) seals }
 {
     if seals != 3 {
-        return Halt {
-            number: 21,
+        return Checked {
+            halt: Some(Halt::Seal),
             pairs: 0,
         };
     }
@@ -41,13 +45,13 @@ pub fn halt_of(
     let latest = newest.matrix;
     let kept = stored.matrix;
     let first = slot_halt(known, accepted, latest, stored.member, n, member, slot);
-    if first.number != 0 {
+    if first.halt.is_some() {
         return first;
     }
     let rest = matrix_halt(known, accepted, latest, kept, n, member, slot);
     let pairs = first.pairs + rest.pairs;
-    Halt {
-        number: rest.number,
+    Checked {
+        halt: rest.halt,
         pairs,
     }
 }

@@ -1,32 +1,20 @@
--- `begin_by` meets its contract for the kind that has its limit and its most members: its number refuses and the block stays, or it is 0
--- and the step's words are left.
-use mathlib.Core.Path.{◌∙◌, ◌≡◌, sym}
-use Rattle.lists.proofs.Refusals.{stays}
-use Rattle.model.specs.Halves.{member_begin_number, member_begin_words}
-use Rattle.model.specs.Kinds.{Kind}
-use Rattle.member_block.specs.Needs.{Begins}
+-- `begin_by` meets its contract for the kind that has its limit and its most members: a refusal leaves the block, and else the step's words
+-- are left.
+use mathlib.Core.Path.{◌∙◌}
+use Rattle.model.specs.Halves.{member_begin_words}
+use Rattle.rules.proofs.Refusals.{kept}
 use Rattle.member.proofs.Refusals.{words_made}
 use Rattle.member.proofs.kinds.begin_by.Goals as goal
-use Rattle.member.proofs.kinds.begin_by.Goals.{Else-number-ne0}
 
-taken : (c : Else-number-ne0) (kind : Kind) → let a = c.args in
-    a.limit ≡ kind.limit → a.most ≡ kind.most
-    → member_begin_number kind a.n a.member a.block.now a.slot a.operation ≡ 0
-taken c kind limit most = sym (c.begin_number-number.ensures.value kind limit most) ∙ c.if-number-ne0.false
-
-ready : (c : Else-number-ne0) → let a = c.args in Begins a.n a.block.now a.slot
-ready c = c.begin_number-number.ensures.begins c.if-number-ne0.false
-
-pub returns-then-number-ne0-clause-block_after : goal.returns-then-number-ne0-clause-block_after
+pub returns-in_err-check_begin-clause-block_after : goal.returns-in_err-check_begin-clause-block_after
 unfolding member_begin_words
-returns-then-number-ne0-clause-block_after c =
-    let e = c.begin_number-number.ensures.value in
-    λ kind limit most. stays _ _ (e kind limit most) c.if-number-ne0.true
+returns-in_err-check_begin-clause-block_after c =
+    let e = c.in_err-check_begin.ensures.value in
+    λ k limit most. kept _ _ c.in_err-check_begin.field-0.0 (e k limit most)
 
 pub returns-clause-block_after : goal.returns-clause-block_after
 unfolding member_begin_words
 returns-clause-block_after c =
-    let before = c.args.block.now in
-    let long = c.begin.auto.block ∙ (ready (goal.at.returns-clause-block_after c).Else-number-ne0).block.long in
-    λ kind limit most. words_made _ before _ _
-    (taken (goal.at.returns-clause-block_after c).Else-number-ne0 kind limit most) long c.begin.ensures
+    let e = c.in_ok-check_begin.ensures in
+    let long = c.begin.auto.block ∙ e.begins.block.long in
+    λ k limit most. words_made _ _ _ _ (e.value k limit most) long c.begin.ensures

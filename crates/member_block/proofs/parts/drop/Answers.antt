@@ -1,24 +1,12 @@
--- `drop` meets its contract: the words after the two clearings and the three stores are those of `dropped-by`.
+-- `drop` meets its contract: the words after the two clearings and the three stores are those of `dropped_by`.
 use Prim.Native.Nat.{◌*◌}
 use native.Mathlib.Omega.{arith}
 use mathlib.Core.Path.{◌∙◌, ap}
 use Rattle.lists.specs.Parts.{words}
 use Rattle.model.specs.Table.{accepted_at, block_size, first_at, known_at, last_at, member_of, pending_at, second_at}
-use Rattle.laws.proofs.Records.{record_size-small}
 use Rattle.laws.proofs.Steps.{dropped_by, holds_cleared, holds_set}
 use Rattle.member_block.proofs.Laws.{whole}
 use Rattle.member_block.proofs.parts.drop.Goals as goal
-
-pub clear-requires : goal.clear-requires
-unfolding block_size second_at first_at known_at pending_at last_at accepted_at
-clear-requires c = omega arith
-
-pub overflow_mul-record_size : goal.overflow_mul-record_size
-overflow_mul-record_size c = record { fits = omega (arith, record_size-small c.args.n c.requires.most) }
-
-pub clear-requires-2 : goal.clear-requires-2
-unfolding block_size second_at first_at known_at pending_at last_at accepted_at
-clear-requires-2 c = omega (arith, c.clear.auto.t, c.layout-at.ensures.first)
 
 pub returns : goal.returns
 unfolding block_size second_at first_at known_at pending_at last_at accepted_at

@@ -1,29 +1,12 @@
--- `fail` meets its contract: the words after the clearing, the phase and the halt number are those of `failed-by`.
+-- `fail` meets its contract: the words after the clearing, the phase and the halt number are those of `failed_by`.
 use Prim.Native.Nat.{◌*◌}
 use native.Mathlib.Omega.{arith}
 use mathlib.Core.Path.{◌∙◌, ap}
-use lib.ListN.{length-set}
 use Rattle.lists.specs.Parts.{words}
 use Rattle.model.specs.Table.{accepted_at, block_size, first_at, known_at, last_at, member_of, pending_at, second_at}
-use Rattle.laws.proofs.Records.{record_size-small}
 use Rattle.laws.proofs.Steps.{failed_by, holds_cleared, holds_set}
 use Rattle.member_block.proofs.Laws.{whole}
 use Rattle.member_block.proofs.parts.fail.Goals as goal
-
-pub overflow_mul-messages : goal.overflow_mul-messages
-overflow_mul-messages c = record { fits = omega (arith, record_size-small c.args.n c.requires.most) }
-
-pub clear-requires : goal.clear-requires
-unfolding block_size second_at first_at known_at pending_at last_at accepted_at
-clear-requires c = omega arith
-
-pub bounds-block-0 : goal.bounds-block-0
-unfolding block_size second_at first_at known_at pending_at last_at accepted_at
-bounds-block-0 c = omega arith
-
-pub bounds-block-2 : goal.bounds-block-2
-unfolding block_size second_at first_at known_at pending_at last_at accepted_at
-bounds-block-2 c = simp length-set (omega arith)
 
 pub returns : goal.returns
 unfolding block_size second_at first_at known_at pending_at last_at accepted_at
@@ -33,5 +16,5 @@ returns c =
     let size = c.record_size-messages in
     let m = holds_cleared (whole c.requires) c.clear.new.t at.result.first (2 * size.result) c.clear.ensures
     (omega arith) in
-    let e = holds_set (holds_set m 0 6 (omega arith)) 2 a.number (omega arith) in
-    ap (member_of a.n) e.same ∙ rw (at.ensures.first, size.ensures) (failed_by a.n (words a.block.now) a.number)
+    let e = holds_set (holds_set m 0 6 (omega arith)) 2 c.number.result (omega arith) in
+    ap (member_of a.n) e.same ∙ rw (at.ensures.first, size.ensures, c.number.ensures) (failed_by a.n (words a.block.now) _)

@@ -1,5 +1,4 @@
--- `note` meets its contract: the words after the two stores and the phase are those of `noted-by`.
-use borrow.Author.Rules.{rules}
+-- `note` meets its contract: the words after the two stores and the phase are those of `noted_by`.
 use native.Mathlib.Omega.{arith}
 use mathlib.Core.Path.{◌∙◌, ◌≡◌, ap}
 use lib.ListN.{length}
@@ -14,18 +13,6 @@ use Rattle.member_block.proofs.parts.note.Goals.{After-store_record-2}
 kept : (c : After-store_record-2)
     → length c.store_record-2.new.t ≡ length c.args.block.now
 kept c = c.store_record-2.auto.t ∙ c.store_record.auto.t
-
-pub store_record-requires : goal.store_record-requires
-unfolding block_size second_at
-store_record-requires c = (search rules, omega arith)
-
-pub store_record-requires-2 : goal.store_record-requires-2
-unfolding block_size
-store_record-requires-2 c = (search rules, omega (arith, c.store_record.auto.t))
-
-pub bounds-block-0 : goal.bounds-block-0
-unfolding block_size second_at first_at known_at pending_at last_at accepted_at
-bounds-block-0 c = omega (arith, kept (goal.at.bounds-block-0 c).After-store_record-2)
 
 pub returns : goal.returns
 unfolding block_size second_at first_at known_at pending_at last_at accepted_at

@@ -1,4 +1,4 @@
--- `begin` meets its contract: the words after the count, the value and the three stores are those of `begun-by`.
+-- `begin` meets its contract: the words after the count, the value and the three stores are those of `begun_by`.
 use Prim.Native.Nat.{◌+◌, ◌-◌}
 use native.Mathlib.Omega.{arith}
 use mathlib.Core.Path.{◌∙◌, ◌≡◌, ap}
@@ -10,7 +10,7 @@ use Rattle.lists.specs.Parts.{words}
 use Rattle.model.specs.Records.{write}
 use Rattle.model.specs.RecordWords.{value_of}
 use Rattle.model.specs.Table.{accepted_at, block_size, first_at, known_at, last_at, member_of, pending_at, second_at}
-use Rattle.laws.proofs.Steps.{begun_by, count_of, holds_pasted, holds_set}
+use Rattle.laws.proofs.Steps.{begun_by, holds_pasted, holds_set}
 use Rattle.member_block.proofs.Laws.{whole}
 use Rattle.member_block.proofs.steps.begin.Goals as goal
 use Rattle.member_block.proofs.steps.begin.Goals.{After-carried-pending, After-store_value}
@@ -28,43 +28,6 @@ carried_value c =
 
 long : (c : After-store_value) → length c.store_value.new.t ≡ length c.args.block.now
 long c = simp length-set at c.store_value.auto.t
-
-pub carried-pending-requires : goal.carried-pending-requires
-unfolding block_size second_at first_at known_at pending_at last_at accepted_at
-carried-pending-requires c = omega arith
-
-pub bounds-block-own : goal.bounds-block-own
-unfolding block_size second_at first_at known_at pending_at last_at accepted_at
-bounds-block-own c = omega arith
-
-pub overflow_add-block : goal.overflow_add-block
-unfolding member_of
-overflow_add-block c =
-    let slot = c.requires.slot in
-    record {
-      fits =
-          omega (arith, c.requires.room, count_of c.args.n (words c.args.block.now) 5 c.args.slot slot.least slot.most);
-    }
-
-pub bounds-block-own-2 : goal.bounds-block-own-2
-unfolding block_size second_at first_at known_at pending_at last_at accepted_at
-bounds-block-own-2 c = omega arith
-
-pub store_value-requires : goal.store_value-requires
-unfolding block_size second_at first_at known_at pending_at last_at accepted_at
-store_value-requires c = simp length-set (omega arith)
-
-pub bounds-block-0 : goal.bounds-block-0
-unfolding block_size second_at first_at known_at pending_at last_at accepted_at
-bounds-block-0 c = omega (arith, long (goal.at.bounds-block-0 c).After-store_value)
-
-pub bounds-block-3 : goal.bounds-block-3
-unfolding block_size second_at first_at known_at pending_at last_at accepted_at
-bounds-block-3 c = simp length-set (omega (arith, long (goal.at.bounds-block-3 c).After-store_value))
-
-pub bounds-block-4 : goal.bounds-block-4
-unfolding block_size second_at first_at known_at pending_at last_at accepted_at
-bounds-block-4 c = simp length-set (omega (arith, long (goal.at.bounds-block-4 c).After-store_value))
 
 pub returns : goal.returns
 unfolding block_size second_at first_at known_at pending_at last_at accepted_at

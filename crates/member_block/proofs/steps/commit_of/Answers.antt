@@ -1,42 +1,7 @@
 -- `commit_of` meets its contract: the fields are read where the layout says, and are those of the record that is sent.
-use Prim.Native.Nat.{◌+◌, ◌≤◌}
-use native.Mathlib.Omega.{arith}
-use Rattle.model.specs.RecordWords.{record_size}
-use Rattle.model.specs.Table.{first_at, member_of}
-use Rattle.laws.proofs.Tables.{block_small}
 use Rattle.member_block.proofs.Laws.{sent_built}
-use Rattle.member_block.proofs.Sizes.{first_room, head_room, own_room, running_slot}
+use Rattle.member_block.proofs.Sizes.{running_slot}
 use Rattle.member_block.proofs.steps.commit_of.Goals as goal
-use Rattle.member_block.proofs.steps.commit_of.Goals.{After-layout-at}
-
-room : (c : After-layout-at) → let n = c.args.n in first_at n + record_size n ≤ 501
-room c = let n = c.args.n in omega (arith, first_room n, block_small n c.requires.block.most)
-
-pub bounds-block-3 : goal.bounds-block-3
-bounds-block-3 c = omega (arith, head_room c.args.n)
-
-pub overflow_add-at : goal.overflow_add-at
-unfolding record_size
-overflow_add-at c = record { fits = omega (arith, room (goal.at.overflow_add-at c).After-layout-at) }
-
-pub load_value-value-requires : goal.load_value-value-requires
-unfolding record_size
-load_value-value-requires c = omega (arith, first_room c.args.n)
-
-pub overflow_add-at-2 : goal.overflow_add-at-2
-unfolding record_size
-overflow_add-at-2 c = record { fits = omega (arith, room (goal.at.overflow_add-at-2 c).After-layout-at) }
-
-pub load_matrix-matrix-requires : goal.load_matrix-matrix-requires
-unfolding record_size
-load_matrix-matrix-requires c = (omega arith, omega (arith, first_room c.args.n))
-
-pub bounds-block-4 : goal.bounds-block-4
-bounds-block-4 c = omega (arith, head_room c.args.n)
-
-pub bounds-block-slot : goal.bounds-block-slot
-unfolding member_of
-bounds-block-slot c = omega (arith, own_room c.args.n)
 
 pub returns : goal.returns
 returns c =

@@ -1,30 +1,11 @@
--- `judge` meets its contract: one word is stored, which `judged-by` reads back, accepted or aborted.
-use mathlib.Core.Path.{ap, ◌∙◌}
-use mathlib.Core.Bool.{true, false}
-use native.Mathlib.Omega.{arith}
-use Rattle.lists.specs.Parts.{words}
-use Rattle.model.specs.Table.{member_of}
-use Rattle.laws.proofs.Blocks.{block_sum}
-use Rattle.laws.proofs.Steps.{holds_set, judged_by_lem}
-use Rattle.member_block.proofs.Laws.{whole}
+-- `judge` meets its contract: one word is stored, accepted or aborted, and `judged_set` reads it back.
+use Rattle.member_block.proofs.Laws.{judged_set}
 use Rattle.member_block.proofs.steps.judge.Goals as goal
-
-pub bounds-block-0 : goal.bounds-block-0
-bounds-block-0 c = omega (arith, block_sum c.args.n)
-
-pub returns-then-won : goal.returns-then-won
-returns-then-won c =
-    let a = c.args in
-    rw c.if-won.true
-    (ap (member_of a.n) (holds_set (whole c.requires) 0 4 (omega (arith, block_sum a.n))).same ∙ judged_by_lem a.n
-    (words a.block.now) true)
-
-pub bounds-block-0-2 : goal.bounds-block-0-2
-bounds-block-0-2 c = omega (arith, block_sum c.args.n)
+use Rattle.member_block.proofs.steps.judge.Goals.{then-won, else-won}
+use mathlib.Core.Bool.{true, false}
 
 pub returns : goal.returns
-returns c =
-    let a = c.args in
-    rw c.if-won.false
-    (ap (member_of a.n) (holds_set (whole c.requires) 0 5 (omega (arith, block_sum a.n))).same ∙ judged_by_lem a.n
-    (words a.block.now) false)
+returns c = elim c.if-won.branch [
+  | then-won w ↦ rw (w.block-is, w.if-won.true) (judged_set c.requires true)
+  | else-won w ↦ rw (w.block-is, w.if-won.false) (judged_set c.requires false)
+]
