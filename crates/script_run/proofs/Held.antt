@@ -26,16 +26,15 @@ use Rattle.laws.proofs.Records.{value_of_same}
 use Rattle.laws.proofs.Tables.{length-table, table_zero}
 use Rattle.runs.proofs.Words.{last_held}
 use Rattle.records.proofs.Laws.{zero_value_lem}
-use Rattle.member_block.specs.declared.Outcome.{Outcome}
-use Rattle.member_block.specs.Results.{returned_in}
-use Rattle.std.specs.Prelude.{Option as CodeOption, Some, None}
-use Rattle.rules.specs.Refusals.{number}
+use Rattle.member_block.specs.Results.{returned_of}
+use Rattle.std.specs.Prelude.{Option as CodeOption, Some, None, Result, Ok, Err}
+use Rattle.rules.specs.Refusals.{number, answer}
 use Rattle.rules.specs.declared.refusal.Refusal.{Refusal}
 use Rattle.script.specs.declared.Line.{Line as LineRead}
 use Rattle.script.specs.declared.Line.TheVariants.{Write, Read, Deliver, Crash}
 use Rattle.script.specs.Meaning.{held_line, line_member, Printed}
 use Rattle.script_run.specs.Feeding.{Event, printed_event, printed_events}
-use Rattle.script_run.specs.Meaning.{call_by, outcome_number, outcome_value, Shows, StepHeld, EventsHeld, Whole, Wrote}
+use Rattle.script_run.specs.Meaning.{call_by, Shows, StepHeld, EventsHeld, Whole, Wrote}
 use Rattle.script_run.specs.declared.Done.{Done}
 use Rattle.script_run.specs.declared.Event.{Event as EventSeen}
 use Rattle.script_run.specs.declared.Event.TheVariants.{Refused, Opened, Step as StepSeen}
@@ -94,13 +93,10 @@ silent_returns : (l : List ℕ) (call : Call) → ((b : Board) → done_returns 
 unfolding table_returns
 silent_returns l call h = on (eqb (table_answer concur l call) 0) (λ p. rw p (h (board_in l))) (λ p. rw p)
 
-pub call_plain : (l : List ℕ) (call made : Call) → call ≡ made → ((b : Board) → done_returns b made ≡ none)
-    → (r : Outcome) (answer : ℕ) (after : List ℕ) → outcome_number r ≡ answer → outcome_value r ≡ none
-    → answer ≡ table_answer concur l made → after ≡ table_after concur l made
-    → (outcome_number r ≡ table_answer concur l call) ×
-    ((outcome_value r ≡ table_returns concur l call) × (after ≡ table_after concur l call))
-call_plain l call made e h r answer after p q a t = rw e
-    (p ∙ a, (q ∙ sym (silent_returns l made h), t))
+-- a call that is done without a value, or refused: nothing is returned
+pub call_plain : (l : List ℕ) (call : Call) → ((b : Board) → done_returns b call ≡ none)
+    → (r : Result (CodeOption (List ℕ)) Refusal) → returned_of r ≡ none → returned_of r ≡ table_returns concur l call
+call_plain l call h r e = e ∙ sym (silent_returns l call h)
 
 -- A step, by what its call answers.
 
@@ -118,8 +114,8 @@ module _ (table line : List ℕ) where
   step_made read h = rw (some_call (line_of line) read h)
 
 -- What was seen at the call of a line, as it is held.
-pub call_shown : (table : List ℕ) (read : LineRead) (outcome : Outcome) (after : List ℕ) (phase : ℕ) → let call = call_by read in
-    outcome_number outcome ≡ table_answer concur table call → outcome_value outcome ≡ table_returns concur table call
+pub call_shown : (table : List ℕ) (read : LineRead) (outcome : Result (CodeOption (List ℕ)) Refusal) (after : List ℕ) (phase : ℕ) → let call = call_by read in
+    answer outcome ≡ table_answer concur table call → returned_of outcome ≡ table_returns concur table call
     → after ≡ table_after concur table call → phase ≡ phase_words after (line_member read)
     → Shows (record { line = read; outcome = outcome; phase = phase }) call (table_seen concur table call)
 unfolding table_seen
@@ -132,9 +128,9 @@ call_shown table read outcome after phase a r t p = record {
 
 -- What is printed of a step that is held.
 
-pub last_word_lem : (r : Outcome) → last_word (outcome_value r) ≡ cond r.returned (some (words r.value 7)) none
-unfolding last_word returned_in value_of numbered inside
-last_word_lem r = on r.returned (λ p. rw p) (λ p. rw p)
+pub last_word_lem : (w : List ℕ) → last_word (some (value_of (words w))) ≡ some (words w 7)
+unfolding last_word value_of numbered inside
+last_word_lem w = refl
 
 pub malformed_shown : (k : ℕ) (s : Option Step) → StepHeld None s → printed_step k s ≡ printed_line k 17 none none
 unfolding printed_step
@@ -142,8 +138,8 @@ malformed_shown k none h = refl
 malformed_shown k (some s) h = absurd h
 
 pub step_shown : (k : ℕ) (d : Done) (s : Option Step) → StepHeld (Some d) s
-    → printed_step k s ≡ printed_line k (outcome_number d.outcome)
-    (cond (eqb (outcome_number d.outcome) 4) none (some d.phase)) (last_word (outcome_value d.outcome))
+    → printed_step k s ≡ printed_line k (answer d.outcome)
+    (cond (eqb (answer d.outcome) 4) none (some d.phase)) (last_word (returned_of d.outcome))
 unfolding printed_step
 step_shown k d none h = absurd h
 step_shown k d (some (step call s)) h = rw (h.answer, ap caller h.made ∙ caller_by d.line, h.phase, h.returned)

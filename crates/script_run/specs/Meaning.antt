@@ -11,8 +11,8 @@ use Rattle.model.specs.Table.{table_words}
 use Rattle.model.specs.Script.{first_of, most_steps}
 use Rattle.rules.specs.Refusals.{number}
 use Rattle.rules.specs.declared.refusal.Refusal.{Refusal}
-use Rattle.member_block.specs.Results.{returned_in}
-use Rattle.member_block.specs.declared.Outcome.{Outcome}
+use Rattle.rules.specs.Refusals.{answer}
+use Rattle.member_block.specs.Results.{returned_of}
 use Rattle.script.specs.Meaning.{line_member, Printed}
 use Rattle.script.specs.declared.Line.{Line as LineRead}
 use Rattle.script.specs.declared.Line.TheVariants.{Write, Read, Deliver, Crash}
@@ -29,13 +29,6 @@ use Rattle.script_run.specs.declared.Written.{Written}
 
 -- What a line did.
 
--- what a call answered by number, and the value that it returned
-abbrev pub outcome_number : Outcome → ℕ
-outcome_number r = r.number
-
-abbrev pub outcome_value : Outcome → Given Value
-outcome_value r = returned_in r
-
 -- the call of a line as the code holds it
 abbrev pub call_by : LineRead → Call
 call_by (Write m v) = begin m m write (put zero_value 8 v)
@@ -46,9 +39,9 @@ call_by (Crash m) = crash m
 -- a call as the code holds it, and what was seen at it: the answer, the caller's phase, and the value returned
 pub record Shows (d : Done) (call : Call) (s : Seen) : Type 0 where
   pub made : call ≡ call_by d.line
-  pub answer : s.answer ≡ outcome_number d.outcome
+  pub answer : s.answer ≡ answer d.outcome
   pub phase : s.phases (line_member d.line) ≡ d.phase
-  pub returned : s.returned ≡ outcome_value d.outcome
+  pub returned : s.returned ≡ returned_of d.outcome
 
 -- a step as the code holds it: a malformed line makes no call
 abbrev pub StepHeld : Option Done → Given Step → Type 0
@@ -60,7 +53,7 @@ StepHeld (Some d) (some (step call s)) = Shows d call s
 -- a step whose answer is 0 is one of a member's
 abbrev pub Made : Option Done → Type 0
 Made None = Unit {0}
-Made (Some d) = outcome_number d.outcome ≡ 0 → Within 12 (line_member d.line)
+Made (Some d) = answer d.outcome ≡ 0 → Within 12 (line_member d.line)
 
 -- an event as the code holds it: a board that was opened has 12 members at most
 pub record StepIs (k : ℕ) (done : Option Done) (event : Event) : Type 0 where

@@ -2,30 +2,31 @@
 ghost use Rattle.std.specs.Prelude.{◌≡◌};
 ghost use Rattle.model.specs.Kinds.{concur};
 ghost use Rattle.model.specs.TableCalls.{table_answer, table_after, table_returns, phase_words};
-ghost use Rattle.script_run.specs.Meaning.{call_by, outcome_number, outcome_value, Whole};
+ghost use Rattle.rules.specs.Refusals.{answer};
+ghost use Rattle.member_block.specs.Results.{returned_of};
+ghost use Rattle.script_run.specs.Meaning.{call_by, Whole};
 
 use board::{begin, crash, deliver};
-use member_block::Outcome;
-use rules::{READ, WRITE, is_numbered};
+use rules::{READ, Refusal, WRITE, is_numbered};
 use script::Line;
 use tables::steps::phase;
 
 // The call of a line: V of a write fills the value's last word.
-pub fn make_call(table: &mut [u32], line: Line) -> Outcome
-    ensures number_value { outcome_number result ≡ table_answer concur table.old (call_by line) }
-    ensures result_value { outcome_value result ≡ table_returns concur table.old (call_by line) }
+pub fn make_call(table: &mut [u32], line: Line) -> Result<Option<[u32; 8]>, Refusal>
+    ensures number_value { answer result ≡ table_answer concur table.old (call_by line) }
+    ensures result_value { returned_of result ≡ table_returns concur table.old (call_by line) }
     ensures table_after { table.new ≡ table_after concur table.old (call_by line) }
 {
     match line {
         Line::Write { member, value } => {
             let value = [0, 0, 0, 0, 0, 0, 0, value];
-            Outcome::nothing(begin(table, member, member, WRITE, value))
+            begin(table, member, member, WRITE, value).map(|()| None)
         }
         Line::Read { member, slot } => {
-            Outcome::nothing(begin(table, member, slot, READ, [0; 8]))
+            begin(table, member, slot, READ, [0; 8]).map(|()| None)
         }
         Line::Deliver { member } => deliver(table, member),
-        Line::Crash { member } => Outcome::nothing(crash(table, member)),
+        Line::Crash { member } => crash(table, member).map(|()| None),
     }
 }
 

@@ -3,9 +3,9 @@
 
 ghost use Rattle.std.specs.Prelude.{List, [], ◌∷◌, ◌≡◌, ℕ};
 ghost use Rattle.script_run.specs.Feeding.{over};
-ghost use Rattle.script_run.specs.Meaning.{outcome_number, state_of};
+ghost use Rattle.rules.specs.Refusals.{answer};
+ghost use Rattle.script_run.specs.Meaning.{state_of};
 
-use member_block::Outcome;
 use rules::Refusal;
 use script::{LONGEST_LINE, Line};
 
@@ -45,20 +45,23 @@ impl Progress {
     }
 }
 
-// What the call of a step's line did: the line, its answer and the value returned, and the member's phase after it.
+// What the call of a step's line did: the line, what refused it or the value returned, and the member's phase after it.
 #[derive(Clone, Copy)]
 pub struct Done {
     pub line: Line,
-    pub outcome: Outcome,
+    pub outcome: Result<Option<[u32; 8]>, Refusal>,
     pub phase: u32,
 }
 
 impl Done {
     // What the call answered by number: 0 where it was done.
     pub fn answer(self) -> u32
-        ensures { result ≡ outcome_number self.outcome }
+        ensures { result ≡ answer self.outcome }
     {
-        self.outcome.number
+        match self.outcome {
+            Ok(_) => 0,
+            Err(refusal) => refusal.number(),
+        }
     }
 }
 

@@ -6,13 +6,13 @@ ghost use Rattle.model.specs.Kinds.{concur};
 ghost use Rattle.model.specs.Runs.{Step};
 ghost use Rattle.model.specs.Script.{last_word, printed_step};
 ghost use Rattle.script.specs.Meaning.{given, longest_printed};
+ghost use Rattle.member_block.specs.Results.{returned_of};
 ghost use Rattle.script_run.specs.Feeding.{Event as Happened, last_events, printed_events};
-ghost use Rattle.script_run.specs.Meaning.{outcome_value, StepHeld, EventsHeld, state_of, Ready, Took, Wrote, FedInto, Finished};
+ghost use Rattle.script_run.specs.Meaning.{StepHeld, EventsHeld, state_of, Ready, Took, Wrote, FedInto, Finished};
 
 pub use crate::lines::run_line;
 use crate::lines::{begun, end_line, keep_byte};
 use crate::{Done, Event, Fed, Progress, Written};
-use member_block::Outcome;
 use rules::Refusal;
 use script::LONGEST_PRINTED;
 use script::steps::{print_board, print_line, print_refused};
@@ -75,13 +75,13 @@ fn shown_phase(answer: u32, phase: u32) -> Option<u32>
 
 // The last word of the value that a call returned.
 #[tactic(auto, using(crate::proofs::Held::last_word_lem))]
-fn returned_word(outcome: Outcome) -> Option<u32>
-    ensures { given result ≡ last_word (outcome_value outcome) }
+fn returned_word(outcome: Result<Option<[u32; 8]>, Refusal>) -> Option<u32>
+    ensures { given result ≡ last_word (returned_of outcome) }
 {
-    if !outcome.returned {
-        return None;
+    match outcome {
+        Ok(Some(value)) => Some(value[7]),
+        _ => None,
     }
-    Some(outcome.value[7])
 }
 
 // The line printed of a step. A malformed line is answered 17, and shows no phase.
