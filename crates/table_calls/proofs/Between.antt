@@ -7,7 +7,7 @@ use Rattle.lists.specs.Functions.{put, from, Within}
 use lib.ListN.{length}
 use Rattle.lists.specs.Parts.{words}
 use Rattle.model.specs.Records.{Rec, record_within}
-use Rattle.model.specs.Member.{Member, answered, judged, returned_by}
+use Rattle.model.specs.Member.{Member, answered, judged}
 use Rattle.model.specs.Host.{Entry, submitted, wins, entry_after, stored_after}
 use Rattle.model.specs.Board.{Board, with_member, submit_taken, sent_record, commit_taken}
 use Rattle.model.specs.Table.{block_size, block_at, host_size, entry_at, first_at, newest_at, stored_at, member_of, entry_of}
@@ -15,8 +15,6 @@ use Rattle.model.specs.Table.{stored_of, host_of}
 use Rattle.model.specs.Table.{stored_records_of, board_of}
 use Rattle.laws.proofs.Records.{within_read}
 use Rattle.laws.proofs.Tables.{member_at, entry_at_lem, stored_at_lem}
-use Rattle.member_block.specs.Results.{Taken}
-use Rattle.member_block.specs.declared.Outcome.{Outcome}
 use Rattle.member_block.specs.Needs.{Running}
 use Rattle.host.specs.Needs.{Slot}
 use Rattle.tables.specs.Needs.{Left, BlockPlace, HostPlace}
@@ -84,10 +82,6 @@ module _ (b : Board) (i : ℕ) (after : Board) (p : Member) where
       → with_member after i p ≡ commit_taken b i
   unfolding with_member commit_taken
   commit_joins won e f g = rw (e, f, g)
-
--- a result told of equal members
-pub taken_of : {r : Outcome} {m m' : Member} (won : Bool) → m ≡ m' → Taken r (returned_by m won) → Taken r (returned_by m' won)
-taken_of won e h = rw (← e) h
 
 -- Member i's block and the host entries, lent in turn, for an operation whose slot the board has.
 

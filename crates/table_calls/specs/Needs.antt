@@ -1,16 +1,11 @@
 -- What the calls require of a table that was checked, and promise each other.
-use Rattle.std.specs.Prelude.{ℕ, ◌≡◌, true, List}
+use Rattle.std.specs.Prelude.{ℕ, ◌≡◌, List}
 use Rattle.lists.specs.Parts.{words}
 use Rattle.model.specs.Kinds.{Kind}
 use Rattle.model.specs.Runs.{Call, answer_of, after}
-use Rattle.model.specs.Table.{board_of, sound_board}
+use Rattle.model.specs.Table.{board_of}
 use Rattle.lists.specs.Functions.{Within}
 use Rattle.tables.specs.Needs.{Table, Left}
-
--- a table that passed its check
-pub record Sound (n : ℕ) (l : List ℕ) : Type 0 where
-  pub table : Table n l
-  pub sound : sound_board n (board_of n (words l)) ≡ true
 
 -- a table, and one of its members whose operation has a slot of the board
 pub record Turn (n i : ℕ) (l : List ℕ) : Type 0 where

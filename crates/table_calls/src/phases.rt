@@ -1,13 +1,13 @@
 // Deliver, by phase: the parts of the table that the halves are lent, and what passes between them.
+ghost use Rattle.std.specs.Prelude.{◌≡◌};
 ghost use Rattle.model.specs.Board.{submit_taken, reply_taken, commit_taken, outcome_taken};
 ghost use Rattle.model.specs.Member.{returned_by};
 ghost use Rattle.model.specs.Table.{board_by};
-ghost use Rattle.member_block.specs.Results.{Taken};
+ghost use Rattle.member_block.specs.Results.{returned_in};
 ghost use Rattle.table_calls.specs.Needs.{Turn};
 ghost use Rattle.tables.specs.Needs.{Left};
 
 use host::steps::{commit, host_size, submit};
-use member_block::Outcome;
 use member_block::steps::{answer, block_size, commit_of, finish, judge, reply_noted, submit_of};
 use tables::steps::{block_at, host_at};
 
@@ -50,9 +50,9 @@ pub fn commit_taken(table: &mut [u32], n: usize, member: u32)
 }
 
 // Phases 4 and 5: the member takes the outcome.
-pub fn outcome_taken(table: &mut [u32], n: usize, member: u32, accepted: bool) -> Outcome
+pub fn outcome_taken(table: &mut [u32], n: usize, member: u32, accepted: bool) -> Option<[u32; 8]>
     requires { Turn n member table.old }
-    ensures taken { Taken result (returned_by ((board_by n table.old).members member) accepted) }
+    ensures taken { returned_in result ≡ returned_by ((board_by n table.old).members member) accepted }
     ensures left { Left n (outcome_taken (board_by n table.old) member accepted) table.new }
 {
     let at = block_at(n, member as usize);

@@ -1,8 +1,8 @@
 -- `outcome_taken` meets its contract: the block that is lent takes its outcome, and hands back what the member of the board does.
+use mathlib.Core.Path.{◌∙◌, ap}
 use Rattle.model.specs.Board.{outcome_taken}
-use Rattle.model.specs.Member.{outcome}
+use Rattle.model.specs.Member.{outcome, returned_by}
 use Rattle.tables.proofs.Lent.{BlockLent, block_lent, member_lent, running_block, step_left}
-use Rattle.table_calls.proofs.Between.{taken_of}
 use Rattle.table_calls.proofs.phases.outcome_taken.Goals as goal
 use Rattle.table_calls.proofs.phases.outcome_taken.Goals.{After-block_size}
 
@@ -17,7 +17,7 @@ pub returns-clause-taken : goal.returns-clause-taken
 unfolding outcome_taken
 returns-clause-taken c =
     let won = c.args.accepted in
-    taken_of won (member_lent (lent (goal.at.returns-clause-taken c).After-block_size)) c.finish.ensures.taken
+    c.finish.ensures.taken ∙ ap (λ m. returned_by m won) (member_lent (lent (goal.at.returns-clause-taken c).After-block_size))
 
 pub returns-clause-left : goal.returns-clause-left
 unfolding outcome_taken
