@@ -27,7 +27,7 @@ use Rattle.laws.proofs.Tables.{length-table, table_zero}
 use Rattle.runs.proofs.Words.{last_held}
 use Rattle.records.proofs.Laws.{zero_value_lem}
 use Rattle.member_block.specs.Results.{returned_of}
-use Rattle.std.specs.Prelude.{Option as CodeOption, Some, None, Result, Ok, Err}
+use Rattle.std.specs.Prelude.{Option as CodeOption, Some, None, Result}
 use Rattle.rules.specs.Refusals.{number, answer}
 use Rattle.rules.specs.declared.refusal.Refusal.{Refusal}
 use Rattle.script.specs.declared.Line.{Line as LineRead}

@@ -3,7 +3,7 @@ use Rattle.std.specs.Prelude.{ℕ, ◌≤◌, ◌<◌, ◌≡◌, true, List, []
 use Rattle.std.proofs.Math.Option.{Option as Given, none, some}
 use Rattle.lists.specs.Functions.{put, Within}
 use Rattle.lists.specs.Parts.{words}
-use Rattle.model.specs.Records.{Value, zero_value, read, write}
+use Rattle.model.specs.Records.{zero_value, read, write}
 use Rattle.model.specs.Runs.{Call, begin, deliver, crash, Seen, Step, step}
 use Rattle.model.specs.Board.{opened}
 use Rattle.model.specs.Kinds.{concur}

@@ -1,5 +1,6 @@
 // The call that a line makes, and what is read off the table after it.
 ghost use Rattle.std.specs.Prelude.{◌≡◌};
+ghost use Rattle.std.proofs.Math.Option.{none};
 ghost use Rattle.model.specs.Kinds.{concur};
 ghost use Rattle.model.specs.TableCalls.{table_answer, table_after, table_returns, phase_words};
 ghost use Rattle.rules.specs.Refusals.{answer};
@@ -11,6 +12,17 @@ use rules::{READ, Refusal, WRITE, is_numbered};
 use script::Line;
 use tables::steps::phase;
 
+// The outcome of a call that returns no value.
+fn no_value(outcome: Result<(), Refusal>) -> Result<Option<[u32; 8]>, Refusal>
+    ensures number_value { answer result ≡ answer outcome }
+    ensures result_value { returned_of result ≡ none }
+{
+    match outcome {
+        Ok(()) => Ok(None),
+        Err(refusal) => Err(refusal),
+    }
+}
+
 // The call of a line: V of a write fills the value's last word.
 pub fn make_call(table: &mut [u32], line: Line) -> Result<Option<[u32; 8]>, Refusal>
     ensures number_value { answer result ≡ table_answer concur table.old (call_by line) }
@@ -20,13 +32,11 @@ pub fn make_call(table: &mut [u32], line: Line) -> Result<Option<[u32; 8]>, Refu
     match line {
         Line::Write { member, value } => {
             let value = [0, 0, 0, 0, 0, 0, 0, value];
-            begin(table, member, member, WRITE, value).map(|()| None)
+            no_value(begin(table, member, member, WRITE, value))
         }
-        Line::Read { member, slot } => {
-            begin(table, member, slot, READ, [0; 8]).map(|()| None)
-        }
+        Line::Read { member, slot } => { no_value(begin(table, member, slot, READ, [0; 8])) }
         Line::Deliver { member } => deliver(table, member),
-        Line::Crash { member } => crash(table, member).map(|()| None),
+        Line::Crash { member } => no_value(crash(table, member)),
     }
 }
 

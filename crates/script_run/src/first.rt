@@ -42,7 +42,8 @@ pub fn run_first(table: &mut [u32], kept: &[u8], p: Progress) -> Ended
         },
         Ok(n) => {
             let size = table_size(n as usize);
-            open(&mut table[..size], n);
+            // Nothing refuses it: the table is one of n members.
+            let _ = open(&mut table[..size], n);
             Ended {
                 progress: Progress {
                     step: 1,

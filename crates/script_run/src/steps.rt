@@ -74,13 +74,14 @@ fn shown_phase(answer: u32, phase: u32) -> Option<u32>
 }
 
 // The last word of the value that a call returned.
-#[tactic(auto, using(crate::proofs::Held::last_word_lem))]
+#[tactic(auto, using(crate::proofs::Held::last_word_lem), unfolding(model::specs::Script::last_word))]
 fn returned_word(outcome: Result<Option<[u32; 8]>, Refusal>) -> Option<u32>
     ensures { given result ≡ last_word (returned_of outcome) }
 {
     match outcome {
         Ok(Some(value)) => Some(value[7]),
-        _ => None,
+        Ok(None) => None,
+        Err(_) => None,
     }
 }
 
