@@ -20,7 +20,7 @@ use Rattle.model.specs.Messages.{record_bytes, encode, fit_message, fit_given, w
 use Rattle.laws.proofs.Messages.{heading, by_kind, length_of_most, length-record_bytes, length-encode, writable_of, readable}
 use Rattle.laws.proofs.Messages.{from_submit, from_reply, from_commit, from_outcome}
 use Rattle.rules.proofs.Refusals.{refuses}
-use Rattle.messages.specs.Meaning.{Fields, Fronted, only_records, message_of}
+use Rattle.messages.specs.Meaning.{Fields, Fronted, message_of}
 
 -- Runs of bytes one after the other, and a list whose front was written.
 
@@ -58,10 +58,6 @@ fronted_more p q l t u k e f h = h ∙ ap (pasted k (length q) (words q)) f ∙ 
 pub fronted_record : (n : ℕ) (p : List ℕ) (r : Rec) (l t u : List ℕ) (k : ℕ) → k ≡ length p → Fronted p l t
     → words u ≡ pasted k (record_length n) (record_byte (words (record_words n r))) (words t) → Fronted (p ++ record_bytes n r) l u
 fronted_record n p r l t u k e f h = fronted_more p (record_bytes n r) l t u k e f (h ∙ record_bytes_lem n k r (words t))
-
--- Equal records make equal fields.
-pub same_records : (kind : ℕ) {a b c d : Rec} → a ≡ b → c ≡ d → only_records kind a c ≡ only_records kind b d
-same_records kind p q i = only_records kind (p i) (q i)
 
 -- The message that the writer is handed, by its kind.
 
