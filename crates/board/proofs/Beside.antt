@@ -1,83 +1,77 @@
 -- Calls with a slice beside the table: what the C interface answers and leaves.
 use Prim.Native.Nat.{ℕ, ◌+◌}
 use native.Mathlib.Omega.{arith}
-use mathlib.Core.Path.{◌≡◌, sym, ap, ◌∙◌}
-use mathlib.Core.Bool.{false, cond}
+use mir.Val.{bool_byte}
+use mathlib.Core.Path.{◌≡◌, refl, sym, ap, ◌∙◌}
+use mathlib.Core.Bool.{false}
 use mathlib.Core.List.{List, ◌∷◌}
-use mathlib.Core.Option.{Option, none, some}
-use lib.ListN.{length, set}
+use lib.Dec.{eqb}
+use lib.ListN.{length, set, replicate}
 use borrow.Author.Tests.{eq-eqb, ne_eqb}
+use Rattle.std.specs.Prelude.{Option as Returned, Some, None, is_some}
+use Rattle.std.specs.Option.{unwrap_or}
 use Rattle.lists.specs.Functions.{from, pasted, numbered}
 use Rattle.lists.specs.Parts.{words, tabulate, listed}
-use Rattle.lists.proofs.Functions.{on, put_at, pasted_below, from_pasted_at, numbered_at}
-use Rattle.lists.proofs.Refusals.{number_refuses, number_passes, stays, becomes}
+use Rattle.lists.proofs.Functions.{put_at, pasted_below, from_pasted_at, numbered_at}
 use Rattle.lists.proofs.Parts.{words_set, tabulate-same}
 use Rattle.lists.proofs.Pieces.{tabulate-join, tabulate-of}
 use Rattle.model.specs.Kinds.{Kind, concur}
-use Rattle.model.specs.Records.{Value, zero_value}
+use Rattle.model.specs.Records.{Value}
 use Rattle.model.specs.RecordWords.{value_of}
 use Rattle.model.specs.Runs.{Call, begin}
 use Rattle.model.specs.Table.{value_size}
 use Rattle.model.specs.TableCalls.{call_number, table_answer, table_after, table_returns}
+use Rattle.records.proofs.Laws.{zero_value_lem}
 use Rattle.member_block.specs.Results.{returned_in}
-use Rattle.member_block.specs.declared.Outcome.{Outcome}
+use Rattle.tables.specs.Needs.{Sound}
 use Rattle.table_calls.specs.Needs.{Answered}
 use Rattle.board.specs.Interface.{answer_beside, after_beside, Beside, returned_size, returned_words, returned_after}
 use Rattle.board.proofs.Answers.{call-number, call-table}
 
 module _ (kind : Kind) (long due : ℕ) (l : List ℕ) (call : Call) where
   -- refused, the table is as it was
-  refused : {k : ℕ} → k ≡ answer_beside kind long due l call → (k ≡ 0 → ⊥) → Beside kind long due l call k l
+  pub refused : {k : ℕ} → k ≡ answer_beside kind long due l call → eqb k 0 ≡ false → Beside kind long due l call k l
   unfolding after_beside
-  refused e ne = (e, stays l _ e ne)
+  refused e ne = (e, rw (← e, ne))
 
   -- by a number that no argument has a part in
-  pub own_beside : {k : ℕ} → k ≡ call_number kind l call → (k ≡ 0 → ⊥) → Beside kind long due l call k l
+  pub own_beside : {k : ℕ} → k ≡ call_number kind l call → eqb k 0 ≡ false → Beside kind long due l call k l
   unfolding answer_beside
-  own_beside e ne = refused (number_refuses _ e ne) ne
+  own_beside e ne = refused (rw (← e, ne)) ne
 
-  module _ {k : ℕ} (e : k ≡ call_number kind l call) (z : k ≡ 0) where
+  module _ (e : 0 ≡ call_number kind l call) where
     -- by the slice's length
     pub long-beside : (long ≡ due → ⊥) → Beside kind long due l call 2 l
     unfolding answer_beside
-    long-beside ne = refused (number_passes e z (rw (ne_eqb long due ne))) (omega arith)
+    long-beside ne = refused (rw (← e, ne_eqb long due ne)) refl
 
-    module _ (fits : long ≡ due) {number : ℕ} {exit : List ℕ} (h : Answered kind (words l 0) l call number exit) where
+    module _ (fits : long ≡ due) {n number : ℕ} {exit : List ℕ} (t : Sound n l) (h : Answered kind n l call number exit) where
       same-call : table_answer kind l call ≡ answer_beside kind long due l call
       unfolding answer_beside table_answer
       same-call = rw (eq-eqb long due fits)
 
       pub done-beside : Beside kind long due l call number exit
       unfolding after_beside table_after
-      done-beside = (call-number kind l exit call e z h ∙ same-call, call-table kind l exit call e z h ∙ rw same-call)
+      done-beside = (call-number kind l exit call t e h ∙ same-call, call-table kind l exit call t e h ∙ rw same-call)
 
 -- What is handed out.
-given : (w : Value) (v : Option Value) → some w ≡ v → (1 ∷ listed value_size w) ≡ returned_words v
+pub handed : (v : Returned (List ℕ))
+    → bool_byte (is_some v) ∷ listed value_size (value_of (words (unwrap_or v (replicate 8 0)))) ≡ returned_words (returned_in v)
 unfolding returned_words
-given w v e = ap returned_words e
-
-nothing : (v : Option Value) → none ≡ v → (0 ∷ listed value_size zero_value) ≡ returned_words v
-unfolding returned_words
-nothing v e = ap returned_words e
-
-pub handed : (r : Outcome) (v : Option Value) → returned_in r ≡ v → (r.returned ≡ false → value_of (words r.value) ≡ zero_value)
-    → (cond r.returned 1 0 ∷ listed value_size (value_of (words r.value))) ≡ returned_words v
-unfolding returned_in
-handed r v e blank = on r.returned
-    (λ p. rw p (given (value_of (words r.value)) v (rw p at e)))
-    (λ p. rw (p, blank p) (nothing v (rw p at e)))
+handed None = ap (λ v. 0 ∷ listed value_size v) zero_value_lem
+handed (Some w) = refl
 
 module _ (returned l : List ℕ) (call : Call) where
-  pub returned_kept : {k : ℕ} → k ≡ answer_beside concur (length returned) returned_size l call → (k ≡ 0 → ⊥)
+  pub returned_kept : {k : ℕ} → k ≡ answer_beside concur (length returned) returned_size l call → eqb k 0 ≡ false
       → returned ≡ returned_after returned l call
   unfolding returned_after
-  returned_kept e ne = stays returned _ e ne
+  returned_kept e ne = rw (← e, ne)
 
   pub returned_written : 0 ≡ answer_beside concur (length returned) returned_size l call → {written : List ℕ}
       → written ≡ returned_words (table_returns concur l call)
       → written ≡ returned_after returned l call
   unfolding returned_after
-  returned_written e h = becomes returned _ (sym e) h
+  returned_written e h = rw (← e) h
 
 -- the nine words, as they are written one after the other
 pub handed_words : (r exit value : List ℕ) (first : ℕ) → length r ≡ returned_size → length exit ≡ length r

@@ -3,7 +3,7 @@ use Prim.Native.Nat.{ℕ}
 use mathlib.Core.Path.{◌≡◌, refl, ap, ◌∙◌}
 use mathlib.Core.Bool.{cond, false}
 use lib.Dec.{eqb}
-use Rattle.std.specs.Prelude.{Result, Ok, Err, IsErrAnd}
+use Rattle.std.specs.Prelude.{Result, Ok, Err, IsErr, IsErrAnd}
 use Rattle.rules.specs.Refusals.{number, answer}
 use Rattle.rules.specs.declared.refusal.Refusal.{Refusal}
 use Rattle.rules.specs.declared.refusal.Refusal.TheVariants.{Size, Length, Word, Member, Slot, Operation, Barred, Busy, Spent, NotDue}
@@ -40,3 +40,7 @@ pub handed_on : {A : Type 0} (r : Result A Refusal) (refusal : Refusal) {k : ℕ
     → answer r ≡ k
 handed_on (Ok x) refusal h e = absurd h
 handed_on (Err met) refusal h e = ap number h ∙ e
+
+pub not_done : {A : Type 0} (r : Result A Refusal) → IsErr r → eqb (answer r) 0 ≡ false
+not_done (Ok x) h = cc
+not_done (Err refusal) h = refuses refusal

@@ -1,41 +1,43 @@
 -- `crash` meets its contract: the table's own number refuses, or the table is sound and `crash_on` answers.
-use mathlib.Core.Path.{◌∙◌, sym}
-use Rattle.lists.specs.Parts.{words}
+use Rattle.rules.specs.Refusals.{answer}
+use Rattle.rules.proofs.Refusals.{handed_on, not_done}
 use Rattle.model.specs.Kinds.{concur}
-use Rattle.table_calls.specs.Needs.{Sound}
-use Rattle.board.proofs.Answers.{call-done, good, of_crash, own_call, some_words}
+use Rattle.model.specs.Runs.{crash}
+use Rattle.board.specs.Calls.{OnTable}
+use Rattle.board.proofs.Answers.{call-done, of_crash, own_call}
 use Rattle.board.proofs.crash.Goals as goal
-use Rattle.board.proofs.crash.Goals.{Else-refused-ne0}
+use Rattle.board.proofs.crash.Goals.{After-from_residual, After-crash_on}
 
-sound : (c : Else-refused-ne0) → let l = c.args.table.now in Sound (words l 0) l
-sound c = good _ (sym c.table_number-refused.ensures ∙ c.if-refused-ne0.false)
+refused : (c : After-from_residual) → let l = c.args.table.now in
+    OnTable concur l (crash c.args.member) (answer c.from_residual.result) l
+refused c =
+    let r = c.from_residual in
+    own_call concur _ _ (handed_on r.result _ r.ensures.1 (of_crash concur _ _ c.in_err-n.ensures.number_value))
+    (not_done r.result r.ensures.0)
 
-pub returns-then-refused-ne0-clause-value : goal.returns-then-refused-ne0-clause-value
-returns-then-refused-ne0-clause-value c =
-    (own_call concur _ _ _ (of_crash concur _ _ c.table_number-refused.ensures) c.if-refused-ne0.true).0
+taken : (c : After-crash_on) → let call = c.crash_on in
+    OnTable concur c.args.table.now (crash c.args.member) (answer call.result) call.new.table
+taken c =
+    let checked = c.in_ok-n.ensures in
+    call-done concur _ _ _ checked.sound (of_crash concur _ _ checked.number_value) c.crash_on.ensures
 
-pub returns-then-refused-ne0-clause-table_after : goal.returns-then-refused-ne0-clause-table_after
-returns-then-refused-ne0-clause-table_after c =
-    (own_call concur _ _ _ (of_crash concur _ _ c.table_number-refused.ensures) c.if-refused-ne0.true).1.0
+pub returns-in_err-n-clause-value : goal.returns-in_err-n-clause-value
+returns-in_err-n-clause-value c = (refused (goal.at.returns-in_err-n-clause-value c).After-from_residual).0
 
-pub returns-then-refused-ne0-clause-table_after_2 : goal.returns-then-refused-ne0-clause-table_after_2
-returns-then-refused-ne0-clause-table_after_2 c =
-    (own_call concur _ _ _ (of_crash concur _ _ c.table_number-refused.ensures) c.if-refused-ne0.true).1.1
+pub returns-in_err-n-clause-table_after : goal.returns-in_err-n-clause-table_after
+returns-in_err-n-clause-table_after c = (refused (goal.at.returns-in_err-n-clause-table_after c).After-from_residual).1.0
 
-pub bounds-table-0 : goal.bounds-table-0
-bounds-table-0 c = some_words (sound (goal.at.bounds-table-0 c).Else-refused-ne0)
+pub returns-in_err-n-clause-table_after_2 : goal.returns-in_err-n-clause-table_after_2
+returns-in_err-n-clause-table_after_2 c = (refused (goal.at.returns-in_err-n-clause-table_after_2 c).After-from_residual).1.1
 
 pub crash_on-requires : goal.crash_on-requires
-crash_on-requires c = (sound (goal.at.crash_on-requires c).Else-refused-ne0).table
+crash_on-requires c = c.in_ok-n.ensures.sound.table
 
 pub returns-clause-value : goal.returns-clause-value
-returns-clause-value c =
-    (call-done concur _ _ _ (of_crash concur _ _ c.table_number-refused.ensures) c.if-refused-ne0.false c.crash_on.ensures).0
+returns-clause-value c = (taken (goal.at.returns-clause-value c).After-crash_on).0
 
 pub returns-clause-table_after : goal.returns-clause-table_after
-returns-clause-table_after c =
-    (call-done concur _ _ _ (of_crash concur _ _ c.table_number-refused.ensures) c.if-refused-ne0.false c.crash_on.ensures).1.0
+returns-clause-table_after c = (taken (goal.at.returns-clause-table_after c).After-crash_on).1.0
 
 pub returns-clause-table_after_2 : goal.returns-clause-table_after_2
-returns-clause-table_after_2 c =
-    (call-done concur _ _ _ (of_crash concur _ _ c.table_number-refused.ensures) c.if-refused-ne0.false c.crash_on.ensures).1.1
+returns-clause-table_after_2 c = (taken (goal.at.returns-clause-table_after_2 c).After-crash_on).1.1

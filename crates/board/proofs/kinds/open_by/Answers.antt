@@ -11,46 +11,41 @@ use Rattle.model.specs.Table.{table_size}
 use Rattle.laws.proofs.Tests.{allowed, refused}
 use Rattle.tables.proofs.Opened.{length-refused, opens, size_refused}
 use Rattle.board.proofs.kinds.open_by.Goals as goal
-use Rattle.board.proofs.kinds.open_by.Lts as lts
-use Rattle.board.proofs.kinds.open_by.Reads as reads
-use Rattle.board.proofs.kinds.open_by.Tie as tie
+use Rattle.board.proofs.kinds.open_by.Goals.{Else-not-is_numbered, Else-table-table_size}
 
-abbrev At-Else-not-is_numbered : Type 0
-At-Else-not-is_numbered = lts.Else1 tie.the-claims reads.Pre reads.Post
-
-abbrev At-Else-table-table_size : Type 0
-At-Else-table-table_size = lts.Else2 tie.the-claims reads.Pre reads.Post
-
-sized : (c : At-Else-not-is_numbered) → let a = c.args in inside a.most a.n ≡ true
+sized : (c : Else-not-is_numbered) → let a = c.args in inside a.kind.most a.n ≡ true
 sized c = allowed c.is_numbered.ensures c.if-not-is_numbered.false-raw
 
-small : (c : At-Else-not-is_numbered) → c.args.n ≤ 12
-small c = let most = c.requires in let few = inside_high c.args.most _ (sized c) in omega arith
+small : (c : Else-not-is_numbered) → c.args.n ≤ 12
+small c = let most = c.requires in let few = inside_high c.args.kind.most _ (sized c) in omega arith
 
 -- the same for a kind that has as many members at most
-sized_for : (c : At-Else-not-is_numbered) (kind : Kind) → c.args.most ≡ kind.most → inside kind.most c.args.n ≡ true
-sized_for c kind most = ap (λ k. inside k c.args.n) (sym most) ∙ sized c
+sized_for : (c : Else-not-is_numbered) (k : Kind) → c.args.kind.most ≡ k.most → inside k.most c.args.n ≡ true
+sized_for c k most = ap (λ most. inside most c.args.n) (sym most) ∙ sized c
 
-long : (c : At-Else-table-table_size) → let a = c.args in length a.table.now ≡ table_size a.n
+long : (c : Else-table-table_size) → let a = c.args in length a.table.now ≡ table_size a.n
 long c = c.if-table-table_size.false ∙ c.table_size.ensures.0
 
 pub returns-then-not-is_numbered : goal.returns-then-not-is_numbered
-returns-then-not-is_numbered c kind most =
+returns-then-not-is_numbered c k most =
     let n = c.args.n in
-    size_refused kind _ _ (ap (λ k. inside k n) (sym most) ∙ refused c.is_numbered.ensures c.if-not-is_numbered.true-raw)
+    size_refused k _ _ (ap (λ most. inside most n) (sym most) ∙ refused c.is_numbered.ensures c.if-not-is_numbered.true-raw)
 
 pub table_size-requires : goal.table_size-requires
-table_size-requires c = small c.before
+table_size-requires c = small c
 
 pub returns-then-table-table_size : goal.returns-then-table-table_size
-returns-then-table-table_size c kind most =
-    length-refused kind _ _ (sized_for c.before.before.before kind most) (λ e. c.if-table-table_size.true (e ∙ sym c.table_size.ensures.0))
+returns-then-table-table_size c k most =
+    length-refused k _ _ (sized_for (goal.at.returns-then-table-table_size c).Else-not-is_numbered k most)
+    (λ e. c.if-table-table_size.true (e ∙ sym c.table_size.ensures.0))
 
 pub open_all-requires : goal.open_all-requires
 open_all-requires c =
-    (inside_low c.args.most _ (sized c.before.before.before), (small c.before.before.before, long c.before))
+    let place = goal.at.open_all-requires c in
+    let fits = place.Else-not-is_numbered in
+    (inside_low c.args.kind.most _ (sized fits), (small fits, long place.Else-table-table_size))
 
 pub returns : goal.returns
-returns c kind most =
-    opens kind _ _ (sized_for c.before.before.before.before.before.before.before kind most)
-    (long c.before.before.before.before.before) c.open_all.ensures
+returns c k most =
+    opens k _ _ (sized_for (goal.at.returns c).Else-not-is_numbered k most) (long (goal.at.returns c).Else-table-table_size)
+    c.open_all.ensures
