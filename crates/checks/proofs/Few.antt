@@ -3,9 +3,12 @@ use Prim.Native.Nat.{ℕ, ◌≤◌}
 use native.Mathlib.Omega.{arith}
 use Rattle.lists.specs.Functions.{Within}
 use Rattle.model.specs.Rows.{Matrix}
-use Rattle.model.specs.Pairs.{pairs25, pairs26, pairs27}
-use Rattle.model.proofs.Pairs.{most25, most26, most27, square}
+use Rattle.model.specs.Pairs.{pairs25, pairs26, pairs27, row_pairs25}
+use Rattle.model.proofs.Pairs.{most25, most26, most27, row_pairs25-most, square}
 use Rattle.laws.proofs.Records.{square_small}
+
+pub rows25 : (n : ℕ) (stored newest : Matrix) → n ≤ 12 → row_pairs25 n stored newest ≤ 144
+rows25 n stored newest h = omega (arith, row_pairs25-most n stored newest, square_small n h)
 
 pub c25 : (n : ℕ) (stored newest : Matrix) → n ≤ 12 → pairs25 n stored newest ≤ 145
 c25 n stored newest h = omega (arith, most25 n stored newest, square_small n h)

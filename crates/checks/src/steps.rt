@@ -12,7 +12,7 @@ ghost use Rattle.checks.specs.Halts.{number_of};
 use crate::halt::Halt;
 use rows::{Check, Row, matrix_below};
 
-// What checks found: the first that failed, if any, and how many pairs of counts were compared until then.
+// What checks found: the first that failed, if any, and how many pairs of counts were compared until then, which is told in either case.
 #[derive(Clone, Copy)]
 pub struct Checked {
     pub halt: Option<Halt>,
@@ -102,6 +102,7 @@ pub fn check_23(accepted: Row, newest: [Row; 12], member: usize, slot: usize) ->
 }
 
 // 25: the stored matrix is below the newest, and they agree in the slot's row at its owner.
+#[tactic(auto, unfolding(model::specs::Pairs::pairs25), using(crate::proofs::Few::rows25))]
 pub fn check_25(stored: [Row; 12], newest: [Row; 12], n: usize, slot: usize) -> Check
     requires { (n ≤ 12) × (Within n slot) }
     ensures passed_value { result.passed ≡ check25 n slot (matrix_in stored) (matrix_in newest) }

@@ -10,7 +10,7 @@ use Rattle.lists.proofs.Functions.{pasted_one, pasted_join, pasted_same, numbere
 use Rattle.lists.proofs.Parts.{words_set, words_more, tabulate-at}
 use Rattle.model.specs.RecordWords.{row_of, matrix_word, record_words}
 use Rattle.model.specs.Messages.{number_length, byte_parts, head_length, value_length, record_length, number_bytes, byte_in, record_byte}
-use Rattle.laws.proofs.Records.{square_small, row_within, row_next, matrix_word-at, head_words, value_words, matrix_words, value_of_at}
+use Rattle.laws.proofs.Records.{row_next, matrix_word-at, head_words, value_words, matrix_words, value_of_at}
 use Rattle.laws.proofs.Messages.{byte_in-at, byte_in_from, byte_in-same, byte_first, byte_further}
 use Rattle.rows.specs.declared.Row.{Row}
 use Rattle.rows.specs.Meaning.{row_in, matrix_in, no_row}
@@ -23,10 +23,6 @@ use Rattle.records.specs.Meaning.{record_in}
 abbrev pub stores : List ℕ → ℕ → ℕ → List ℕ → List ℕ
 stores l a i [] = l
 stores l a i (x ∷ p) = stores (set l (a + i) x) a (i + 1) p
-
-pub length-stores : (l : List ℕ) (a i : ℕ) (p : List ℕ) → length (stores l a i p) ≡ length l
-length-stores l a i [] = refl
-length-stores l a i (x ∷ p) = length-stores (set l (a + i) x) a (i + 1) p ∙ length-set l (a + i) x
 
 stores_more : (m : List ℕ) (a i : ℕ) (p : List ℕ) (g w : ℕ → ℕ) → a + (i + length p) ≤ length m → words m ≡ pasted a i g w
     → ((k : ℕ) → k < length p → words p k ≡ g (i + k)) → words (stores m a i p) ≡ pasted a (i + length p) g w
@@ -54,14 +50,6 @@ row_named r n g h e =
     ap (λ l. numbered 12 0 (words l)) e
     ∙ numbered_same 12 0 (words (tabulate 12 (pasted 0 n g (λ k. 0)))) (pasted 0 n g (λ k. 0)) (tabulate-at 12 (pasted 0 n g (λ k. 0)))
     ∙ numbered_padded 12 n 0 g h
-
--- row j lies within the matrix, and the matrix is small
-pub record RowFits (n j : ℕ) : Type 0 where
-  pub within : j * n + n ≤ n * n
-  pub small : n * n ≤ 144
-
-pub row_fits : (n j : ℕ) → n ≤ 12 → j < n → RowFits n j
-row_fits n j h p = record { within = row_within n j p; small = square_small n h }
 
 -- one row more of a matrix written
 pub row_written : (m : List Row) (n j a : ℕ) (w : ℕ → ℕ) → n ≤ 12 → j < n

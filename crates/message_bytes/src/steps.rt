@@ -53,6 +53,7 @@ pub fn record_length(n: usize) -> usize
 }
 
 // Where the second record of a reply begins.
+#[tactic(auto, unfolding(model::specs::Messages::record_length), using(laws::proofs::Records::square_small))]
 pub fn second_at(n: usize) -> usize
     requires { n ≤ 12 }
     ensures { result ≡ record_at + record_length n }
@@ -63,20 +64,15 @@ pub fn second_at(n: usize) -> usize
 pub fn wide(x: u8) -> u32
     ensures { result ≡ x }
 {
-    x as u32
+    u32::from(x)
 }
 
-fn big_endian(a: u8, b: u8, c: u8, d: u8) -> u32
-    ensures { result ≡ a * 16777216 + b * 65536 + c * 256 + d }
-{
-    (a as u32) * 16777216 + (b as u32) * 65536 + (c as u32) * 256 + (d as u32)
-}
-
+#[tactic(auto, unfolding(model::specs::Messages::number_of, lists::specs::Functions::from))]
 pub fn read_number(s: &[u8], at: usize) -> u32
     requires { at + 4 ≤ length s.now }
     ensures { result ≡ number_of (from (words s.now) at) }
 {
-    big_endian(s[at], s[at + 1], s[at + 2], s[at + 3])
+    u32::from_be_bytes([s[at], s[at + 1], s[at + 2], s[at + 3]])
 }
 
 fn read_value(s: &[u8], at: usize) -> [u32; 8]
@@ -84,26 +80,22 @@ fn read_value(s: &[u8], at: usize) -> [u32; 8]
     ensures { value_of (words result) ≡ value_of (number_in (from (words s.now) at)) }
 {
     let mut value = [0u32; 8];
-    let mut i = 0;
-    while i < 8 {
+    for i in 0..8 {
         value[i] = read_number(s, at + i * 4);
-        i += 1;
     }
     value
 }
 
 // Number i of the n from `at` on, and 0 past them.
+#[tactic(auto, unfolding(lists::specs::Functions::pasted), using(laws::proofs::Messages::number_in_at))]
 fn count_at(s: &[u8], at: usize, n: usize, i: usize) -> u32
     requires { (n ≤ 12) × (at + n * 4 ≤ length s.now) }
     ensures { result ≡ pasted 0 n (number_in (from (words s.now) at)) (λ k. 0) i }
 {
-    if i < n {
-        return read_number(s, at + i * 4);
-    }
-    0
+    if i < n { read_number(s, at + i * 4) } else { 0 }
 }
 
-// All twelve counts are named: a row that a loop fills in memory is copied twice on its way into the matrix.
+// All twelve counts are named, for speed: a row that a loop fills in memory is copied twice on its way into the matrix.
 fn read_row(s: &[u8], at: usize, n: usize) -> Row
     requires { (n ≤ 12) × (at + n * 4 ≤ length s.now) }
     ensures { row_in result ≡ row_of n (number_in (from (words s.now) at)) }
@@ -130,10 +122,8 @@ fn read_matrix(s: &[u8], at: usize, n: usize) -> [Row; 12]
     ensures { matrix_in result ≡ matrix_of n (number_in (from (words s.now) at)) }
 {
     let mut matrix = [Row::ZERO; 12];
-    let mut j = 0;
-    while j < n {
+    for j in 0..n {
         matrix[j] = read_row(s, at + j * n * 4, n);
-        j += 1;
     }
     matrix
 }
@@ -157,24 +147,20 @@ pub fn read_record(s: &[u8], at: usize, n: usize) -> Record
     }
 }
 
+#[tactic(auto, unfolding(model::specs::Messages::number_bytes), using(lists::proofs::Parts::words_replaced))]
 pub fn write_number(t: &mut [u8], at: usize, x: u32)
     requires { at + 4 ≤ length t.old }
     ensures { words t.new ≡ pasted at 4 (words (number_bytes x)) (words t.old) }
 {
-    t[at] = (x / 16777216 % 256) as u8;
-    t[at + 1] = (x / 65536 % 256) as u8;
-    t[at + 2] = (x / 256 % 256) as u8;
-    t[at + 3] = (x % 256) as u8;
+    t[at..at + 4].copy_from_slice(&x.to_be_bytes());
 }
 
 fn write_value(t: &mut [u8], at: usize, value: [u32; 8])
     requires { at + 32 ≤ length t.old }
     ensures { words t.new ≡ pasted at 32 (byte_in (words value)) (words t.old) }
 {
-    let mut i = 0;
-    while i < 8 {
+    for i in 0..8 {
         write_number(t, at + i * 4, value[i]);
-        i += 1;
     }
 }
 
@@ -182,10 +168,8 @@ fn write_row(t: &mut [u8], at: usize, n: usize, row: Row)
     requires { (n ≤ 12) × (at + n * 4 ≤ length t.old) }
     ensures { words t.new ≡ pasted at (n * 4) (byte_in (words row.counts)) (words t.old) }
 {
-    let mut i = 0;
-    while i < n {
+    for i in 0..n {
         write_number(t, at + i * 4, row.counts[i]);
-        i += 1;
     }
 }
 
@@ -193,10 +177,8 @@ fn write_matrix(t: &mut [u8], at: usize, n: usize, matrix: [Row; 12])
     requires { (n ≤ 12) × (at + n * n * 4 ≤ length t.old) }
     ensures { words t.new ≡ pasted at (n * n * 4) (byte_in (matrix_word n (matrix_in matrix))) (words t.old) }
 {
-    let mut j = 0;
-    while j < n {
+    for j in 0..n {
         write_row(t, at + j * n * 4, n, matrix[j]);
-        j += 1;
     }
 }
 

@@ -16,7 +16,7 @@ pub mod steps;
 pub struct Record {
     pub member: u32,
     pub slot: u32,
-    // 1 read, 2 write
+    // 1 read, 2 write; a number and no enum, since `load_record` answers with whatever word stands there
     pub operation: u32,
     pub count: u32,
     // document 01's sheet

@@ -1,4 +1,4 @@
-use Prim.Native.Nat.{ℕ, ◌≤◌}
+use Prim.Native.Nat.{ℕ}
 use mathlib.Core.Bool.{Bool}
 use mathlib.Core.List.{List}
 use Rattle.model.specs.Member.{row27}
@@ -12,5 +12,4 @@ abbrev pub test : ℕ → ℕ → Row → List Row → ℕ → Bool
 test i r accepted newest = row27 i r (row_in accepted) (matrix_in newest)
 
 abbrev pub invariant-loop-j : goal.invariant-loop-j
-invariant-loop-j l =
-    (l.j ≤ l.n) × (Walked (test l.member l.slot l.accepted l.newest) (otherwise l.slot 1) 1 l.j l.pairs)
+invariant-loop-j l = Walked (test l.member l.slot l.accepted l.newest) (otherwise l.slot 1) 1 l.j l.pairs

@@ -1,4 +1,4 @@
-use Prim.Native.Nat.{ℕ, ◌+◌, ◌≤◌}
+use Prim.Native.Nat.{ℕ, ◌+◌}
 use mathlib.Core.Path.{◌≡◌}
 use mathlib.Core.List.{List}
 use lib.ListN.{length}
@@ -13,5 +13,7 @@ abbrev pub row : ℕ → List Row → List Row → ℕ → ℕ → ℕ
 row n known newest j = larger n (matrix_in known (j + 1)) (matrix_in newest (j + 1))
 
 abbrev pub invariant-loop-j : goal.invariant-loop-j
-invariant-loop-j l =
-    (l.j ≤ l.n) × ((length l.matrix ≡ 12) × (seen row_in no_row l.matrix ≡ pasted 0 l.j (row l.n l.known l.newest) zero_matrix))
+invariant-loop-j l = record {
+  long : length l.matrix ≡ 12;
+  rows : seen row_in no_row l.matrix ≡ pasted 0 l.j (row l.n l.known l.newest) zero_matrix;
+}

@@ -1,5 +1,4 @@
 -- `read_matrix` meets its contract: the first j rows are those passed, the others zero.
-use borrow.Author.Rules.{rules}
 use Prim.Native.Nat.{ℕ, ◌*◌}
 use mathlib.Core.Path.{◌≡◌, refl, sym, ap, ◌∙◌}
 use native.Mathlib.Omega.{arith}
@@ -18,24 +17,22 @@ use Rattle.message_bytes.proofs.steps.read_matrix.Invariants.{row}
 use Rattle.message_bytes.proofs.steps.read_matrix.Goals as goal
 
 pub loop-j-init : goal.loop-j-init
-loop-j-init c = (search rules, (refl, zero_rows ∙ sym (pasted_none 0 _ _)))
+loop-j-init c = record { long = refl; read = zero_rows ∙ sym (pasted_none 0 _ _) }
 
 pub loop-j-preserved : goal.loop-j-preserved
 loop-j-preserved c =
     let a = c.args in
     let l = c.loop-j in
     let w : ℕ → ℕ = words a.s.now in
-    let read : row_in c.read_row.result ≡ row a.n (from w a.at) l.j =
+    let this : row_in c.read_row.result ≡ row a.n (from w a.at) l.j =
     c.read_row.ensures
     ∙ ap (λ f. row_of a.n (number_in f)) (sym (from_from w a.at (l.j * a.n * 4)))
-    ∙ ap (row_of a.n) (sym (number_in_from (from w a.at) (l.j * a.n))) in (
-      search rules,
-      (
-        simp length-set (omega arith),
-        seen_more row_in no_row l.matrix 0 l.j l.j c.read_row.result (row a.n (from w a.at)) zero_matrix
-            l.invariant.1.1 (omega arith) (omega arith) read,
-      ),
-    )
+    ∙ ap (row_of a.n) (sym (number_in_from (from w a.at) (l.j * a.n))) in
+    record {
+      long = simp length-set (omega arith);
+      read = seen_more row_in no_row l.matrix 0 l.j l.j c.read_row.result (row a.n (from w a.at)) zero_matrix
+          l.invariant.read (omega arith) (omega arith) this;
+    }
 
 pub returns : goal.returns
 unfolding matrix_of
@@ -43,4 +40,4 @@ returns c =
     let a = c.args in
     let l = c.loop-j in
     let e : l.j ≡ a.n = omega arith in
-    matrix_read l.matrix a.n (row a.n (from (words a.s.now) a.at)) (omega arith) (rw e at l.invariant.1.1)
+    matrix_read l.matrix a.n (row a.n (from (words a.s.now) a.at)) (omega arith) (rw e at l.invariant.read)

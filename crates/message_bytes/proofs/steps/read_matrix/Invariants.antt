@@ -1,4 +1,4 @@
-use Prim.Native.Nat.{ℕ, ◌-◌, ◌*◌, ◌≤◌}
+use Prim.Native.Nat.{ℕ, ◌*◌}
 use mathlib.Core.Path.{◌≡◌}
 use lib.ListN.{length}
 use Rattle.lists.specs.Functions.{from, pasted}
@@ -15,8 +15,7 @@ abbrev pub row : ℕ → (ℕ → ℕ) → ℕ → Row
 row n b k = row_of n (from (number_in b) (k * n))
 
 abbrev pub invariant-loop-j : goal.invariant-loop-j
-invariant-loop-j l =
-    (l.j ≤ l.n) × ((length l.matrix ≡ 12) × (seen row_in no_row l.matrix ≡ pasted 0 l.j (row l.n (from (words l.s) l.at)) zero_matrix))
-
-abbrev pub decreases-loop-j : goal.decreases-loop-j
-decreases-loop-j l = l.n - l.j
+invariant-loop-j l = record {
+  long : length l.matrix ≡ 12;
+  read : seen row_in no_row l.matrix ≡ pasted 0 l.j (row l.n (from (words l.s) l.at)) zero_matrix;
+}

@@ -1,5 +1,4 @@
 -- `read_value` meets its contract: the first i words are the numbers passed.
-use borrow.Author.Rules.{rules}
 use Prim.Native.Nat.{ℕ}
 use mathlib.Core.Path.{◌≡◌, refl, sym, ap, ◌∙◌}
 use native.Mathlib.Omega.{arith}
@@ -15,20 +14,17 @@ use Rattle.laws.proofs.Messages.{number_in_at}
 use Rattle.message_bytes.proofs.steps.read_value.Goals as goal
 
 pub loop-i-init : goal.loop-i-init
-loop-i-init c = (search rules, (refl, words_zeros 8 ∙ sym (pasted_none 0 _ _)))
+loop-i-init c = record { long = refl; read = words_zeros 8 ∙ sym (pasted_none 0 _ _) }
 
 pub loop-i-preserved : goal.loop-i-preserved
 loop-i-preserved c =
     let a = c.args in
     let l = c.loop-i in
-    let read = c.read_number.ensures ∙ sym (number_in_at (words a.s.now) a.at l.i) in (
-      search rules,
-      (
-        simp length-set (omega arith),
-        words_more l.value 0 l.i l.i _ (number_in (from (words a.s.now) a.at)) (λ k. 0) l.invariant.1.1
-            (omega arith) (omega arith) read,
-      ),
-    )
+    record {
+      long = simp length-set (omega arith);
+      read = words_more l.value 0 l.i l.i _ (number_in (from (words a.s.now) a.at)) (λ k. 0) l.invariant.read (omega arith) (omega arith)
+          (c.read_number.ensures ∙ sym (number_in_at (words a.s.now) a.at l.i));
+    }
 
 pub returns : goal.returns
 returns c =
@@ -36,5 +32,5 @@ returns c =
     let l = c.loop-i in
     let e : l.i ≡ 8 = omega arith in
     let w : ℕ → ℕ = number_in (from (words a.s.now) a.at) in
-    ap value_of (rw e at l.invariant.1.1)
+    ap value_of (rw e at l.invariant.read)
     ∙ value_of_same (pasted 0 8 w (λ k. 0)) w (λ i h. pasted_in 0 8 w (λ k. 0) i (omega arith) (omega arith) ∙ ap w (omega arith))

@@ -1,6 +1,5 @@
-use Prim.Native.Nat.{◌-◌, ◌*◌, ◌≤◌}
+use Prim.Native.Nat.{◌*◌}
 use mathlib.Core.Path.{◌≡◌}
-use lib.ListN.{length}
 use Rattle.lists.specs.Functions.{pasted}
 use Rattle.lists.specs.Parts.{words}
 use Rattle.model.specs.RecordWords.{matrix_word}
@@ -9,9 +8,4 @@ use Rattle.rows.specs.Meaning.{matrix_in}
 use Rattle.message_bytes.proofs.steps.write_matrix.Given as goal
 
 abbrev pub invariant-loop-j : goal.invariant-loop-j
-invariant-loop-j l =
-    (l.j ≤ l.n) × ((length l.t ≡ length l.initial.t) ×
-    (words l.t ≡ pasted l.at (l.j * l.n * 4) (byte_in (matrix_word l.n (matrix_in l.matrix))) (words l.initial.t)))
-
-abbrev pub decreases-loop-j : goal.decreases-loop-j
-decreases-loop-j l = l.n - l.j
+invariant-loop-j l = words l.t ≡ pasted l.at (l.j * l.n * 4) (byte_in (matrix_word l.n (matrix_in l.matrix))) (words l.initial.t)
