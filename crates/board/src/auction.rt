@@ -1,4 +1,5 @@
-// Auction boards: their opening and their begin. Deliver and crash are the common ones.
+// Auction boards: their opening and their begin. Deliver and crash are the common ones. Beside the common board's and not one call for
+// every kind, which would be no plainer: each call's contract names its board.
 ghost use Rattle.std.specs.Prelude.{◌≡◌};
 ghost use Rattle.lists.specs.Parts.{words};
 ghost use Rattle.model.specs.Kinds.{auction};

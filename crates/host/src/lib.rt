@@ -1,4 +1,5 @@
-// The host half: take a submit, take a commit, on the n host entries.
+// The host half: take a submit, take a commit, on the n host entries. The type is handed in as a number, since number 6 refuses any other
+// one: an enum would ask the caller to judge it.
 #![tactic(auto)]
 
 ghost use Rattle.std.specs.Prelude.{◌≡◌, IfOk};

@@ -1,4 +1,4 @@
-// One row of a log beside what is remembered of the rows above it.
+// One row of a log beside what is remembered of the rows above it. Its words stay numbers, since another vendor's log may have any there.
 ghost use Rattle.std.specs.Prelude.{◌+◌, ◌≤◌, ◌<◌, ◌≡◌, not, ◌&&◌, length};
 ghost use Rattle.lists.specs.Functions.{from};
 ghost use Rattle.lists.specs.Parts.{words};

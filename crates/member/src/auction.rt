@@ -1,4 +1,5 @@
-// The member half of an auction gateway: its begin. All other calls are the common ones.
+// The member half of an auction gateway: its begin. All other calls are the common ones. Beside the common begin and not one call for every
+// kind, which would be no plainer: each contract names its board.
 ghost use Rattle.std.specs.Prelude.{◌≡◌};
 ghost use Rattle.lists.specs.Parts.{words};
 ghost use Rattle.model.specs.Kinds.{auction};

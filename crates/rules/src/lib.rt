@@ -1,5 +1,6 @@
 // The rules that both halves share, as Kinds.antt and Numbers.antt have them: the kinds of board, the types of operation, what number 7
-// refuses, and what refuses a begin, a deliver and a crash, by the member's numbers and the arguments.
+// refuses, and what refuses a begin, a deliver and a crash, by the member's numbers and the arguments. Phase and crash mark are words of a
+// table, and so numbers.
 #![tactic(auto)]
 
 ghost use Rattle.std.specs.Prelude.{◌≡◌};
