@@ -1,5 +1,5 @@
 // The board: n members and the host in one table of words. Each call checks the whole table, then its arguments, then makes its step; a
-// call that is refused changes nothing. A type is handed in as a number, here and in the crates below, since number 6 refuses any other one.
+// call that is refused changes nothing. A type is handed in as a number, here and in the crates below: number 6 refuses any other one.
 #![tactic(auto)]
 
 ghost use Rattle.std.specs.Prelude.{◌≡◌};
