@@ -27,8 +27,9 @@ use Rattle.laws.proofs.Tables.{length-table, table_zero}
 use Rattle.runs.proofs.Words.{last_held}
 use Rattle.records.proofs.Laws.{zero_value_lem}
 use Rattle.member_block.specs.Results.{returned_of}
-use Rattle.std.specs.Prelude.{Option as CodeOption, Some, None, Result}
+use Rattle.std.specs.Prelude.{Option as CodeOption, Some, None, Result, Ok, Err, IsOk}
 use Rattle.rules.specs.Refusals.{number, answer}
+use Rattle.rules.proofs.Refusals.{refuses}
 use Rattle.rules.specs.declared.refusal.Refusal.{Refusal}
 use Rattle.script.specs.declared.Line.{Line as LineRead}
 use Rattle.script.specs.declared.Line.TheVariants.{Write, Read, Deliver, Crash}
@@ -196,6 +197,15 @@ step_whole l line w = whole_stepped l (call_of (line_of line)) w
 pub opened_words : (n : ℕ) (l : List ℕ) → inside 12 n ≡ true → length l ≡ table_size n → open_words concur n l ≡ table_words n (opened n)
 unfolding open_words open_number
 opened_words n l p q = rw (p, eq-eqb (length l) (table_size n) q)
+
+-- nothing refuses that opening
+pub opened_done : (n : ℕ) (l : List ℕ) → inside 12 n ≡ true → length l ≡ table_size n
+    → (r : Result Unit Refusal) → answer r ≡ open_number concur n l → IsOk r
+unfolding open_number
+opened_done n l p q (Ok x) e = refl
+opened_done n l p q (Err refusal) e =
+    let z : number refusal ≡ 0 = e ∙ rw (p, eq-eqb (length l) (table_size n) q) in
+    let d = sym (eq-eqb (number refusal) 0 z) ∙ refuses refusal in cc
 
 -- Texts.
 

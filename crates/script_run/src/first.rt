@@ -42,8 +42,7 @@ pub fn run_first(table: &mut [u32], kept: &[u8], p: Progress) -> Ended
         },
         Ok(n) => {
             let size = table_size(n as usize);
-            // Nothing refuses it: the table is one of n members.
-            let _ = open(&mut table[..size], n);
+            open(&mut table[..size], n).unwrap();
             Ended {
                 progress: Progress {
                     step: 1,

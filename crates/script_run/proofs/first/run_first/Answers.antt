@@ -11,7 +11,7 @@ use Rattle.model.specs.Table.{table_words}
 use Rattle.laws.proofs.Tables.{length-table}
 use Rattle.script_run.specs.Feeding.{opens, ended}
 use Rattle.script_run.specs.Meaning.{first_line}
-use Rattle.script_run.proofs.Held.{whole_words, opened_words}
+use Rattle.script_run.proofs.Held.{whole_words, opened_words, opened_done}
 use Rattle.script_run.proofs.States.{refused_ran, ended-ran}
 use Rattle.script_run.proofs.first.run_first.Goals as goal
 use Rattle.script_run.proofs.first.run_first.Goals.{After-open, After-table_size-size, In-Ok}
@@ -34,6 +34,14 @@ opens_words c =
     ∙ opened_words c.in-Ok.n (lent p) (inside_in 12 c.in-Ok.n within.least within.most) (lent_long p ∙ c.table_size-size.ensures.0)
 
 -- The goals.
+
+-- nothing refuses the opening
+pub unwrap-requires : goal.unwrap-requires
+unwrap-requires c =
+    let p = (goal.at.unwrap-requires c).After-table_size-size in
+    let within = c.in-Ok.ensures.within in
+    opened_done c.in-Ok.n (lent p) (inside_in 12 c.in-Ok.n within.least within.most) (lent_long p ∙ c.table_size-size.ensures.0)
+    c.open.result c.open.ensures.value
 
 pub returns-in-Err : goal.returns-in-Err
 returns-in-Err c =
