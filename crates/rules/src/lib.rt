@@ -7,6 +7,10 @@ ghost use Rattle.lists.specs.Functions.{inside};
 ghost use Rattle.model.specs.Kinds.{Kind, is_operation, fit_fields, barred};
 ghost use Rattle.model.specs.Numbers.{fields_number, kind_number, begin_answer, deliver_answer, crash_answer};
 
+pub mod refusal;
+
+pub use refusal::{Refusal, answered};
+
 // The most members of a board.
 pub const MOST_MEMBERS: u32 = 12;
 
