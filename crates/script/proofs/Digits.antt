@@ -2,7 +2,7 @@
 use Prim.Native.Nat.{ℕ, zero, suc, ◌+◌, ◌-◌, ◌*◌, ◌/◌, ◌%◌, ◌^◌, ◌≤◌, ◌<◌}
 use native.Mathlib.Omega.{arith}
 use mathlib.Core.Path.{◌≡◌, refl, sym, ap, ◌∙◌}
-use mathlib.Core.Bool.{true, false}
+use mathlib.Core.Bool.{true, false, cond}
 use mathlib.Core.Option.{Option, none, some}
 use mathlib.Core.List.{List, [], ◌∷◌, ◌++◌, append_assoc, append-nil}
 use lib.Dec.{ltb}
@@ -41,6 +41,15 @@ unfolding digits
 digits_more x h =
     within_more x x h
     ∙ ap (λ l. l ++ ((digit_zero + x % 10) ∷ [])) (within_same x (suc (x / 10)) (x / 10) (omega arith) (omega arith))
+
+-- what stands before the last digit
+abbrev pub front_digits : ℕ → List ℕ
+front_digits x = cond (ltb x 10) [] (digits (x / 10))
+
+pub digits_front : (x : ℕ) → digits x ≡ front_digits x ++ ((digit_zero + x % 10) ∷ [])
+digits_front x = on (ltb x 10)
+    (λ p. rw p (digits_one x (ltb-true x 10 p)))
+    (λ p. rw p (digits_more x (ltb-false x 10 p)))
 
 -- How many.
 

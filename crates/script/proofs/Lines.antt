@@ -8,10 +8,13 @@ use mathlib.Core.Bool.{true, cond}
 use mathlib.Core.List.{List, [], ◌∷◌, ◌++◌}
 use mathlib.Core.Option.{Option, none, some}
 use lib.Dec.{eqb, ltb}
-use lib.ListN.{length, take, drop, length-append, length-take}
+use lib.ListN.{length, take, drop, length-append, length-take, length-drop}
 use lib.Seq.{take_all}
 use borrow.Author.Tests.{eq-eqb, ne_eqb, eqb-true, ltb-true, ltb-false}
 use Rattle.lists.proofs.Functions.{on, first, second}
+use Rattle.std.specs.Prelude.{Some, None, position}
+use Rattle.std.specs.List.{position_or_len}
+use Rattle.std.specs.Option.{unwrap_or}
 use Rattle.model.specs.Script.{line_feed, space, is_digit, members_word, write_word, read_word, deliver_word, crash_word}
 use Rattle.model.specs.Script.{starts_with, before}
 use Rattle.model.specs.Script.{beyond, digits, digits_read, number_of, Line, writes, reads, delivers, crashes, malformed, one_number}
@@ -238,3 +241,27 @@ pub no_line_lem : (l : List ℕ) → length l ≤ 0 → lines_of l ≡ []
 unfolding lines_of
 no_line_lem [] h = refl
 no_line_lem (b ∷ l) h = absurd (omega arith)
+
+-- The place of the first byte b, as the code finds it.
+
+before_length : (b : ℕ) (l : List ℕ) → length (before b l) ≡ position_or_len (λ x. eqb x b) l
+unfolding before
+before_length b [] = refl
+before_length b (a ∷ l) = on (eqb a b) (λ p. rw p) (λ p. rw p (omega (arith, before_length b l)))
+
+pub found_end : (b : ℕ) (l : List ℕ) → unwrap_or (position (λ x. eqb x b) l) (length l) ≡ length (before b l)
+found_end b l = rw (sym (before_length b l)) (on (ltb (length (before b l)) (length l))
+    (λ p. rw p)
+    (λ p. rw p (omega (arith, before_within b l, ltb-false (length (before b l)) (length l) p))))
+
+pub found_none : (b : ℕ) (l : List ℕ) → position (λ x. eqb x b) l ≡ None → length (beyond b l) ≡ 0
+found_none b l e = on (ltb (length (before b l)) (length l))
+    (λ p. let z : Some (length (before b l)) ≡ None = (rw (sym (before_length b l), p) at e) in cc)
+    (λ p. let z = ltb-false (length (before b l)) (length l) p in rw (← drop-beyond, length-drop) (omega arith))
+
+pub found_at : (b : ℕ) (l : List ℕ) (i : ℕ) → position (λ x. eqb x b) l ≡ Some i → (i < length l) × ((take i l ≡ before b l) × (drop (i + 1) l ≡ beyond b l))
+found_at b l i e = on (ltb (length (before b l)) (length l))
+    (λ p. let z : Some (length (before b l)) ≡ Some i = (rw (sym (before_length b l), p) at e) in
+    let z : length (before b l) ≡ i = cc in
+    rw (sym z) (ltb-true (length (before b l)) (length l) p, (take-before b l, drop-beyond b l)))
+    (λ p. let z : None ≡ Some i = (rw (sym (before_length b l), p) at e) in cc)

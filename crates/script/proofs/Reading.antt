@@ -4,73 +4,36 @@ use native.Mathlib.Nat.{pow-suc, pow-succ', pow-le-pow_right, mul-le-mul_right, 
 use native.Mathlib.Numerals.{add-one}
 use native.Mathlib.Omega.{arith}
 use mathlib.Core.Path.{◌≡◌, refl, sym, ap, ◌∙◌}
+use mathlib.Core.Logic.{◌⊎◌, ⊎_elim}
 use mathlib.Core.Bool.{true, false, cond, ◌&&◌}
-use mathlib.Core.List.{List, [], ◌∷◌, ◌++◌, append_assoc, append-nil}
+use mathlib.Core.List.{List, [], ◌∷◌}
 use mathlib.Core.Option.{Option, none, some}
-use lib.Dec.{eqb, leb, ltb}
+use lib.Dec.{eqb, leb}
 use lib.ListN.{length, take, drop, length-drop, drop_of_length-le}
-use lib.Seq.{drop-cons, take-suc, take_all}
-use borrow.Author.Tests.{eq-eqb, ne_eqb, lt-ltb, le-ltb, ltb-true, ltb-false, leb-true}
+use lib.Seq.{drop-cons, take_all}
+use lib.Pointwise.{pointwise}
+use borrow.Author.Tests.{eq-eqb, ne_eqb, lt-ltb, le-ltb, eqb-true, eqb-false, leb-true}
+use Rattle.std.specs.Prelude.{Option as CodeOption, Some, None, Result, Ok, Err}
+use Rattle.std.specs.Result.{OkIff, result_ok}
 use Rattle.lists.specs.Parts.{words}
-use Rattle.lists.proofs.Functions.{on, both, first, second, fails, apart}
-use Rattle.model.specs.Script.{space, is_digit, digit_zero, starts_with, before, beyond, digits_read, limited, leading_zero}
-use Rattle.model.specs.Script.{number_of, Line}
-use Rattle.model.specs.Script.{writes, reads, delivers, crashes, malformed, one_number, two_numbers, single, double}
-use Rattle.script.specs.Meaning.{held_number, held_line, held_one, held_two}
-use Rattle.script.specs.declared.Number.{Number}
-use Rattle.script.specs.declared.Line.{Line as LineStruct}
+use Rattle.lists.proofs.Functions.{on, both, first, second, apart}
+use Rattle.model.specs.Script.{is_digit, digit_zero, starts_with, digits_read, limited, leading_zero, number_of}
+use Rattle.model.specs.Script.{Line, malformed, one_number, two_numbers}
+use Rattle.script.specs.Meaning.{held_number, held_pair}
 
 -- Words.
 
-pub starts_step : (word l : List ℕ) (i : ℕ) → i < length word → i < length l
-    → starts_with (drop i word) (drop i l) ≡ (eqb (words word i) (words l i) && starts_with (drop (i + 1) word) (drop (i + 1) l))
+eqb_swap : (a b : ℕ) → eqb a b ≡ eqb b a
+eqb_swap a b = on (eqb b a)
+    (λ p. rw (p, eq-eqb a b (sym (eqb-true b a p))))
+    (λ p. rw (p, ne_eqb a b (λ e. eqb-false b a p (sym e))))
+
+-- a text begins with a word where its front is the word
+pub starts_front : (word l : List ℕ) → pointwise eqb (take (length word) l) word ≡ starts_with word l
 unfolding starts_with
-starts_step word l i p q = rw (drop-cons word i 0 p, drop-cons l i 0 q, add-one)
-
-pub starts_end : (word l : List ℕ) (i : ℕ) → length word ≤ i → starts_with (drop i word) (drop i l) ≡ true
-unfolding starts_with
-starts_end word l i h = rw (drop_of_length-le word h)
-
--- a text that is shorter than the word
-pub starts_short : (word l : List ℕ) → length l < length word → starts_with word l ≡ false
-unfolding starts_with
-starts_short [] l h = absurd (omega arith)
-starts_short (a ∷ word) [] h = refl
-starts_short (a ∷ word) (b ∷ l) h = fails (eqb a b) (starts_short word l (omega arith))
-
--- The first byte b.
-
--- none of the first i bytes is b
-abbrev pub Passed : ℕ → List ℕ → ℕ → Type 0
-Passed b l i = (take i l ++ before b (drop i l) ≡ before b l) × (beyond b (drop i l) ≡ beyond b l)
-
-pub passed_none : (b : ℕ) (l : List ℕ) → Passed b l 0
-passed_none b l = (refl, refl)
-
-pub passed_more : (b : ℕ) (l : List ℕ) (i : ℕ) → i < length l → (words l i ≡ b → ⊥) → Passed b l i → Passed b l (i + 1)
-unfolding before beyond
-passed_more b l i h q p = (
-  rw (add-one, take-suc l i 0 h, append_assoc) (rw (drop-cons l i 0 h, ne_eqb (words l i) b q) at p).0,
-  rw add-one (rw (drop-cons l i 0 h, ne_eqb (words l i) b q) at p).1,
-)
-
--- where it stands
-pub passed_here : (b : ℕ) (l : List ℕ) (i : ℕ) → i < length l → words l i ≡ b → Passed b l i
-    → (take i l ≡ before b l) × (drop (i + 1) l ≡ beyond b l)
-unfolding before beyond
-passed_here b l i h q p = (
-  sym (append-nil (take i l)) ∙ (rw (drop-cons l i 0 h, eq-eqb (words l i) b q) at p).0,
-  rw add-one (rw (drop-cons l i 0 h, eq-eqb (words l i) b q) at p).1,
-)
-
--- and where there is none
-pub passed_all : (b : ℕ) (l : List ℕ) (i : ℕ) → length l ≤ i → Passed b l i → (take i l ≡ before b l) × (drop (i + 1) l ≡ beyond b l)
-unfolding before beyond
-passed_all b l i h p =
-    let past : length l ≤ i + 1 = omega arith in (
-      sym (append-nil (take i l)) ∙ (rw (drop_of_length-le l h) at p).0,
-      drop_of_length-le l past ∙ (rw (drop_of_length-le l h) at p).1,
-    )
+starts_front [] l = refl
+starts_front (a ∷ word) [] = refl
+starts_front (a ∷ word) (b ∷ l) = ap (λ t. t && pointwise eqb (take (length word) l) word) (eqb_swap b a) ∙ ap (λ t. eqb a b && t) (starts_front word l)
 
 -- Digits.
 
@@ -82,14 +45,16 @@ pub digit_high : (b : ℕ) → is_digit b ≡ true → b ≤ 57
 unfolding is_digit
 digit_high b p = leb-true b 57 (second (leb 48 b) (leb b 57) p)
 
-pub digit_read : (b d : ℕ) → d ≡ cond (is_digit b) (b - digit_zero) 10 → d ≤ 9 → (is_digit b ≡ true) × (d ≡ b - digit_zero)
-digit_read b d e h = on (is_digit b)
-    (λ p. (p, (rw p at e)))
-    (λ p. let z : d ≡ 10 = (rw p at e) in absurd (omega arith))
+-- what the code says of a byte: its digit, or that it is none
 
-pub digit_none : (b d : ℕ) → d ≡ cond (is_digit b) (b - digit_zero) 10 → 9 < d → is_digit b ≡ false
-digit_none b d e h = on (is_digit b)
-    (λ p. let z : d ≡ b - digit_zero = (rw p at e) in let q = digit_high b p in absurd (omega arith))
+pub digit_read : (b d : ℕ) → Some d ≡ cond (is_digit b) (Some (b - digit_zero)) None → (is_digit b ≡ true) × (d ≡ b - digit_zero)
+digit_read b d e = on (is_digit b)
+    (λ p. (p, (let z : Some d ≡ Some (b - digit_zero) = (rw p at e) in cc)))
+    (λ p. let z : Some d ≡ None = (rw p at e) in cc)
+
+pub digit_none : (b : ℕ) → ◌≡◌ {A = CodeOption ℕ} None (cond (is_digit b) (Some (b - digit_zero)) None) → is_digit b ≡ false
+digit_none b e = on (is_digit b)
+    (λ p. let z : ◌≡◌ {A = CodeOption ℕ} None (Some (b - digit_zero)) = (rw p at e) in cc)
     (λ p. p)
 
 pub read_more : (l : List ℕ) (x i d : ℕ) → i < length l → is_digit (words l i) ≡ true → d ≡ words l i - digit_zero
@@ -168,76 +133,53 @@ number_long (b ∷ l) h = on (leading_zero (b ∷ l))
     (λ q. let s = read_grows 10 (0 * 10 + (b - digit_zero)) l y (omega arith) (rw q at e) in omega arith)
     (λ q. let z : ◌≡◌ {A = ℕ} 0 1 = (cc (rw q at e)) in absurd (omega arith))))
 
+-- The three grounds on which no byte is looked at.
+pub number_refused : (l : List ℕ) → (length l ≡ 0) ⊎ ((10 < length l) ⊎ (leading_zero l ≡ true)) → number_of l ≡ none
+number_refused l h = ⊎_elim (number_empty l) (λ k. ⊎_elim (number_long l) (number_zero l) k) h
+
+-- a value that was read is the number if it fits 32 bits
+pub number_fits : {E : Type 0} (value : ℕ) (r : Result ℕ E) → OkIff r (value < 4294967296) value
+    → result_ok r ≡ held_number (limited (some value))
+unfolding limited
+number_fits value (Ok x) h = rw (lt-ltb value 4294967296 h.0) (ap Some h.1)
+number_fits value (Err e) h = let out : 4294967296 ≤ value = omega (arith, h) in rw (le-ltb value 4294967296 out)
+
 -- What the code holds, as it is used.
 
-pub held_none : (o : Option ℕ) (r : Number) → r ≡ held_number o → r.ok ≡ false → o ≡ none
-unfolding held_number
-held_none none r e h = refl
-held_none (some x) r e h = absurd (apart (ap (λ n. n.ok) e) h)
+pub held_none : (o : Option ℕ) → held_number o ≡ None → o ≡ none
+held_none none h = refl
+held_none (some x) h = cc
 
-pub held_some : (o : Option ℕ) (r : Number) → r ≡ held_number o → r.ok ≡ true → o ≡ some r.value
-unfolding held_number
-held_some none r e h = absurd (apart h (ap (λ n. n.ok) e))
-held_some (some x) r e h = ap some (sym (ap (λ n. n.value) e))
+pub held_some : (o : Option ℕ) (x : ℕ) → held_number o ≡ Some x → o ≡ some x
+held_some none x h = cc
+held_some (some y) x h = let e : y ≡ x = cc in ap some e
 
-held_one_lem : (kind : ℕ) (line : ℕ → Line) (o : Option ℕ)
-    → ((x : ℕ) → held_line (line x) ≡ record { kind = kind; member = x; argument = 0 }) → held_one kind o ≡ held_line (one_number line o)
-unfolding held_one one_number
-held_one_lem kind line none h = refl
-held_one_lem kind line (some x) h = sym (h x)
+pub pair_none : (o p : Option ℕ) → p ≡ none → held_pair o p ≡ None
+pair_none none p h = refl
+pair_none (some x) p h = rw h
 
-held_two_lem : (kind : ℕ) (line : ℕ → ℕ → Line) (o p : Option ℕ)
-    → ((x y : ℕ) → held_line (line x y) ≡ record { kind = kind; member = x; argument = y })
-    → held_two kind o p ≡ held_line (two_numbers line o p)
-unfolding held_two two_numbers
-held_two_lem kind line none p h = refl
-held_two_lem kind line (some x) none h = refl
-held_two_lem kind line (some x) (some y) h = sym (h x y)
+-- the line of the numbers that were read
 
-pub two_none : (kind : ℕ) (o p : Option ℕ) → p ≡ none → held_two kind o p ≡ held_line malformed
-unfolding held_two
-two_none kind none p h = refl
-two_none kind (some x) p h = rw h
+pub no_number : (line : ℕ → Line) (o : Option ℕ) → None ≡ held_number o → one_number line o ≡ malformed
+unfolding one_number
+no_number line o h = rw (held_none o (sym h))
 
--- the line that is held, by the tests of a caller
-unfoldable pub line_from : ℕ → ℕ → ℕ → Line
-line_from kind m x =
-    cond (eqb kind 1) (writes m x)
-    (cond (eqb kind 2) (reads m x)
-    (cond (eqb kind 3) (delivers m)
-    (cond (eqb kind 4) (crashes m)
-    malformed)))
+pub a_number : (line : ℕ → Line) (o : Option ℕ) (x : ℕ) → Some x ≡ held_number o → one_number line o ≡ line x
+unfolding one_number
+a_number line o x h = rw (held_some o x (sym h))
 
-from_held : (line : Line) → line ≡ line_from (held_line line).kind (held_line line).member (held_line line).argument
-unfolding line_from held_line
-from_held (writes m v) = refl
-from_held (reads m r) = refl
-from_held (delivers m) = refl
-from_held (crashes m) = refl
-from_held malformed = refl
+pub no_pair : (line : ℕ → ℕ → Line) (o p : Option ℕ) → None ≡ held_pair o p → two_numbers line o p ≡ malformed
+unfolding two_numbers
+no_pair line none p h = refl
+no_pair line (some x) none h = refl
+no_pair line (some x) (some y) h = cc
 
-pub held_line_lem : (line : Line) (r : LineStruct) → r ≡ held_line line → line ≡ line_from r.kind r.member r.argument
-held_line_lem line r e = from_held line ∙ ap (λ h. line_from h.kind h.member h.argument) (sym e)
+pub a_pair : (line : ℕ → ℕ → Line) (o p : Option ℕ) (x y : ℕ) → Some (x, y) ≡ held_pair o p → two_numbers line o p ≡ line x y
+unfolding two_numbers
+a_pair line none p x y h = cc
+a_pair line (some z) none x y h = cc
+a_pair line (some z) (some w) x y h = let e : ◌≡◌ {A = ℕ × ℕ} (z, w) (x, y) = cc in ap (λ (q : ℕ × ℕ). line q.0 q.1) e
 
 -- the part of a list from n on, as it is lent
 pub rest_all : (l : List ℕ) (n : ℕ) → take (length l - n) (drop n l) ≡ drop n l
 rest_all l n = take_all (length l - n) (drop n l) (rw length-drop (le_refl (length l - n)))
-
--- a line of a kind from the part of the text from n on
-pub one_behind : (kind n : ℕ) (line : ℕ → Line) (l : List ℕ)
-    → ((x : ℕ) → held_line (line x) ≡ record { kind = kind; member = x; argument = 0 })
-    → held_one kind (number_of (take (length l - n) (drop n l))) ≡ held_line (single line (drop n l))
-one_behind kind n line l h = rw (rest_all l n) (held_one_lem kind line (number_of (drop n l)) h)
-
-pub two_behind : (kind n : ℕ) (line : ℕ → ℕ → Line) (l : List ℕ)
-    → ((x y : ℕ) → held_line (line x y) ≡ record { kind = kind; member = x; argument = y })
-    → held_two kind (number_of (before space (take (length l - n) (drop n l)))) (number_of (beyond space (take (length l - n) (drop n l))))
-    ≡ held_line (double line (drop n l))
-two_behind kind n line l h =
-    rw (rest_all l n) (held_two_lem kind line (number_of (before space (drop n l))) (number_of (beyond space (drop n l))) h)
-
--- a text that begins with a word is as long as it
-pub starts_fits : (word l : List ℕ) → starts_with word l ≡ true → length word ≤ length l
-starts_fits word l h = on (ltb (length l) (length word))
-    (λ p. absurd (apart h (starts_short word l (ltb-true (length l) (length word) p))))
-    (ltb-false (length l) (length word))

@@ -1,32 +1,37 @@
 -- How the code holds what it read, and what it is handed to print.
-use Rattle.std.specs.Prelude.{ℕ, ◌+◌, ◌≡◌, List, length, Bool, true, false, cond}
+use Rattle.std.specs.Prelude.{ℕ, ◌+◌, ◌≡◌, List, length, Option, Some, None}
 use Rattle.lists.specs.Parts.{replaced}
-use Rattle.std.proofs.Math.Option.{Option, none, some}
+use Rattle.std.proofs.Math.Option.{Option as Given, none, some}
 use Rattle.model.specs.Script.{Line, writes, reads, delivers, crashes, malformed}
-use Rattle.script.specs.declared.Number.{Number as NumberStruct}
-use Rattle.script.specs.declared.Line.{Line as LineStruct}
+use Rattle.script.specs.declared.Line.{Line as LineRead}
+use Rattle.script.specs.declared.Line.TheVariants.{Write, Read, Deliver, Crash}
 
-unfoldable pub held_number : Option ℕ → NumberStruct
-held_number none = record { ok = false; value = 0 }
-held_number (some x) = record { ok = true; value = x }
+-- The definitions have one Option, and the code has another.
 
--- kinds: 0 malformed, 1 write, 2 read, 3 deliver, 4 crash; what a line does not have is 0
-unfoldable pub held_line : Line → LineStruct
-held_line (writes m v) = record { kind = 1; member = m; argument = v }
-held_line (reads m r) = record { kind = 2; member = m; argument = r }
-held_line (delivers m) = record { kind = 3; member = m; argument = 0 }
-held_line (crashes m) = record { kind = 4; member = m; argument = 0 }
-held_line malformed = record { kind = 0; member = 0; argument = 0 }
+abbrev pub held_number : Given ℕ → Option ℕ
+held_number none = None
+held_number (some x) = Some x
 
--- a line of one kind from the number or the two numbers behind its word
-unfoldable pub held_one : ℕ → Option ℕ → LineStruct
-held_one kind none = held_line malformed
-held_one kind (some x) = record { kind = kind; member = x; argument = 0 }
+-- a malformed line is none
+abbrev pub held_line : Line → Option LineRead
+held_line (writes m v) = Some (Write m v)
+held_line (reads m r) = Some (Read m r)
+held_line (delivers m) = Some (Deliver m)
+held_line (crashes m) = Some (Crash m)
+held_line malformed = None
 
-unfoldable pub held_two : ℕ → Option ℕ → Option ℕ → LineStruct
-held_two kind none y = held_line malformed
-held_two kind (some x) none = held_line malformed
-held_two kind (some x) (some y) = record { kind = kind; member = x; argument = y }
+-- two numbers, both of which could be read
+abbrev pub held_pair : Given ℕ → Given ℕ → Option (ℕ × ℕ)
+held_pair none y = None
+held_pair (some x) none = None
+held_pair (some x) (some y) = Some (x, y)
+
+-- the member that a line names
+abbrev pub line_member : LineRead → ℕ
+line_member (Write m v) = m
+line_member (Read m r) = m
+line_member (Deliver m) = m
+line_member (Crash m) = m
 
 -- no line of a good form is longer (`write M V`), and no line that is printed (four numbers, and a byte behind each)
 
@@ -36,9 +41,10 @@ longest_line = 27
 abbrev pub longest_printed : ℕ
 longest_printed = 44
 
--- x where it is given
-abbrev pub given : Bool → ℕ → Option ℕ
-given has x = cond has (some x) none
+-- what the code is handed to print: a number, or none
+abbrev pub given : Option ℕ → Given ℕ
+given None = none
+given (Some x) = some x
 
 -- the text was printed from a place on, and the next place is just behind it
 pub record Printed (before after : List ℕ) (place : ℕ) (text : List ℕ) (next : ℕ) : Type 0 where

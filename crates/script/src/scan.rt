@@ -1,58 +1,29 @@
-// Bytes looked at: digits, words, and the first byte of some value.
-ghost use Rattle.std.specs.Prelude.{◌≡◌, cond, ◌+◌, ◌-◌, ◌≤◌, length, take, drop};
-ghost use Rattle.model.specs.Script.{is_digit, digit_zero, leading_zero, starts_with, before, beyond};
+// Bytes looked at: digits, zeros, and the first byte of some value.
+ghost use Rattle.std.specs.Prelude.{◌≡◌, cond, ◌-◌, None, Some, position, ◌==◌};
+ghost use Rattle.model.specs.Script.{is_digit, digit_zero, leading_zero};
 
-// The digit that a byte writes, and 10 where it writes none.
-pub fn digit(b: u8) -> u64
-    ensures { result ≡ cond (is_digit b) (b - digit_zero) 10 }
+// The digit that a byte writes.
+#[tactic(auto, unfolding(model::specs::Script::is_digit))]
+pub fn digit(b: u8) -> Option<u64>
+    ensures { result ≡ cond (is_digit b) (Some (b - digit_zero)) None }
 {
-    if b < b'0' {
-        return 10;
+    match b {
+        b'0'..=b'9' => Some(u64::from(b - b'0')),
+        _ => None,
     }
-    if b'9' < b {
-        return 10;
-    }
-    (b - b'0') as u64
 }
 
 // Does a zero stand before other bytes?
+#[tactic(auto, unfolding(model::specs::Script::leading_zero))]
 pub fn leading_zero(t: &[u8]) -> bool
     ensures { result ≡ leading_zero t.now }
 {
-    if t.len() < 2 {
-        return false;
-    }
-    t[0] == b'0'
+    matches!(t, [b'0', _, ..])
 }
 
-// Do the bytes begin with the word?
-pub fn starts_with(t: &[u8], word: &[u8]) -> bool
-    ensures { result ≡ starts_with word.now t.now }
+// Where the first byte b stands.
+pub fn find(t: &[u8], b: u8) -> Option<usize>
+    ensures { result ≡ position (λ x. x == b) t.now }
 {
-    if t.len() < word.len() {
-        return false;
-    }
-    let mut i = 0;
-    while i < word.len() {
-        if t[i] != word[i] {
-            return false;
-        }
-        i += 1;
-    }
-    true
-}
-
-// Where the first byte b stands, or the length.
-pub fn find(t: &[u8], b: u8) -> usize
-    ensures { (result ≤ length t.now)
-        × ((take result t.now ≡ before b t.now) × (drop (result + 1) t.now ≡ beyond b t.now)) }
-{
-    let mut i = 0;
-    while i < t.len() {
-        if t[i] == b {
-            return i;
-        }
-        i += 1;
-    }
-    i
+    t.iter().position(|x| *x == b)
 }

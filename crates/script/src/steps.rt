@@ -1,21 +1,9 @@
 // Lines printed, for the program: each function asks for the room that it needs, writes from `at` on, and returns the place behind.
+// `Display` is no use here: what it writes no proof can name, and each contract says which bytes stand in the output.
 ghost use Rattle.std.specs.Prelude.{◌≡◌, ◌+◌, ◌%◌, ◌≤◌, ◌++◌, length};
 ghost use Rattle.std.proofs.Math.Option.{some};
 ghost use Rattle.model.specs.Script.{digit_zero, space, line_feed, digits, field, printed_line, board_line, refused_line};
 ghost use Rattle.script.specs.Meaning.{given, Printed};
-
-// How many digits a number has.
-fn digit_count(x: u32) -> usize
-    ensures { result ≡ length (digits x) }
-{
-    let mut count = 1;
-    let mut rest = x;
-    while 10 <= rest {
-        rest = rest / 10;
-        count += 1;
-    }
-    count
-}
 
 // The last digit of a number.
 fn last_digit(x: u32) -> u8
@@ -24,21 +12,18 @@ fn last_digit(x: u32) -> u8
     b'0' + (x % 10) as u8
 }
 
-// The digits of a number, the last first.
+// The digits of a number: those of its tenth, and the last.
 pub fn print_number(out: &mut [u8], at: usize, x: u32) -> usize
     requires { at + length (digits x) ≤ length out.old }
     ensures { Printed out.old out.new at (digits x) result }
 {
-    let count = digit_count(x);
-    let mut left = count;
-    let mut rest = x;
-    while 10 <= rest {
-        out[at + left - 1] = last_digit(rest);
-        rest = rest / 10;
-        left -= 1;
-    }
-    out[at + left - 1] = last_digit(rest);
-    at + count
+    let last = if 10 <= x {
+        print_number(out, at, x / 10)
+    } else {
+        at
+    };
+    out[last] = last_digit(x);
+    last + 1
 }
 
 // Bytes as they are.
@@ -46,24 +31,19 @@ pub fn print_bytes(out: &mut [u8], at: usize, text: &[u8]) -> usize
     requires { at + length text.now ≤ length out.old }
     ensures { Printed out.old out.new at text.now result }
 {
-    let mut i = 0;
-    while i < text.len() {
-        out[at + i] = text[i];
-        i += 1;
-    }
-    at + text.len()
+    let next = at + text.len();
+    out[at..next].copy_from_slice(text);
+    next
 }
 
 // A number, or `-` where there is none, and the byte behind it.
-pub fn print_field(out: &mut [u8], at: usize, has: bool, x: u32, end: u8) -> usize
-    requires { at + length (field (given has x) end) ≤ length out.old }
-    ensures { Printed out.old out.new at (field (given has x) end) result }
+pub fn print_field(out: &mut [u8], at: usize, x: Option<u32>, end: u8) -> usize
+    requires { at + length (field (given x) end) ≤ length out.old }
+    ensures { Printed out.old out.new at (field (given x) end) result }
 {
-    if !has {
-        out[at] = b'-';
-        out[at + 1] = end;
-        return at + 2;
-    }
+    let Some(x) = x else {
+        return print_bytes(out, at, &[b'-', end]);
+    };
     let next = print_number(out, at, x);
     out[next] = end;
     next + 1
@@ -74,8 +54,8 @@ pub fn print_pair(out: &mut [u8], at: usize, x: u32, y: u32) -> usize
     requires { at + length (field (some x) space ++ field (some y) line_feed) ≤ length out.old }
     ensures { Printed out.old out.new at (field (some x) space ++ field (some y) line_feed) result }
 {
-    let next = print_field(out, at, true, x, b' ');
-    print_field(out, next, true, y, b'\n')
+    let next = print_field(out, at, Some(x), b' ');
+    print_field(out, next, Some(y), b'\n')
 }
 
 // The line of a step.
@@ -84,19 +64,16 @@ pub fn print_line(
     at: usize,
     step: u32,
     answer: u32,
-    phased: bool,
-    phase: u32,
-    returned: bool,
-    value: u32,
+    phase: Option<u32>,
+    value: Option<u32>,
 ) -> usize
-    requires { at + length (printed_line step answer (given phased phase) (given returned value)) ≤ length out.old }
-    ensures { Printed out.old out.new at
-        (printed_line step answer (given phased phase) (given returned value)) result }
+    requires { at + length (printed_line step answer (given phase) (given value)) ≤ length out.old }
+    ensures { Printed out.old out.new at (printed_line step answer (given phase) (given value)) result }
 {
-    let second = print_field(out, at, true, step, b' ');
-    let third = print_field(out, second, true, answer, b' ');
-    let fourth = print_field(out, third, phased, phase, b' ');
-    print_field(out, fourth, returned, value, b'\n')
+    let second = print_field(out, at, Some(step), b' ');
+    let third = print_field(out, second, Some(answer), b' ');
+    let fourth = print_field(out, third, phase, b' ');
+    print_field(out, fourth, value, b'\n')
 }
 
 // A word, a number and the end of the line.
@@ -105,10 +82,11 @@ fn print_worded(out: &mut [u8], at: usize, word: &[u8], x: u32) -> usize
     ensures { Printed out.old out.new at (word.now ++ field (some x) line_feed) result }
 {
     let next = print_bytes(out, at, word);
-    print_field(out, next, true, x, b'\n')
+    print_field(out, next, Some(x), b'\n')
 }
 
 // The first line: the board's n.
+#[tactic(auto, unfolding(model::specs::Script::board_line))]
 pub fn print_board(out: &mut [u8], at: usize, n: u32) -> usize
     requires { at + length (board_line n) ≤ length out.old }
     ensures { Printed out.old out.new at (board_line n) result }
@@ -117,6 +95,7 @@ pub fn print_board(out: &mut [u8], at: usize, n: u32) -> usize
 }
 
 // The one line where the first line of the script was refused.
+#[tactic(auto, unfolding(model::specs::Script::refused_line))]
 pub fn print_refused(out: &mut [u8], at: usize, number: u32) -> usize
     requires { at + length (refused_line number) ≤ length out.old }
     ensures { Printed out.old out.new at (refused_line number) result }

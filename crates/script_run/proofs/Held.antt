@@ -2,13 +2,13 @@
 use Prim.Native.Nat.{ℕ, ◌+◌, ◌≤◌, ◌<◌}
 use native.Mathlib.Omega.{arith}
 use mathlib.Core.Path.{◌≡◌, refl, sym, ap, ◌∙◌}
-use mathlib.Core.Bool.{true, cond, not, ◌||◌}
+use mathlib.Core.Bool.{true, cond}
 use mathlib.Core.List.{List, [], ◌∷◌, ◌++◌, append-nil}
 use mathlib.Core.Option.{Option, none, some}
 use lib.Dec.{eqb}
 use lib.ListN.{length, take, drop, replicate, take-append-drop}
 use lib.Seq.{take-append-add, take-append_seam, length-take-le}
-use borrow.Author.Tests.{eq-eqb, ne_eqb}
+use borrow.Author.Tests.{eq-eqb}
 use Rattle.lists.specs.Functions.{put, inside, numbered}
 use Rattle.lists.specs.Parts.{words, tabulate}
 use Rattle.lists.proofs.Functions.{on}
@@ -17,7 +17,7 @@ use Rattle.model.specs.Kinds.{concur}
 use Rattle.model.specs.Records.{Value, zero_value}
 use Rattle.model.specs.RecordWords.{value_of}
 use Rattle.model.specs.Board.{Board, opened}
-use Rattle.model.specs.Runs.{Call, begin, deliver, crash, Step, step, done, done_returns}
+use Rattle.model.specs.Runs.{Call, begin, crash, Step, step, done, done_returns}
 use Rattle.model.specs.Table.{table_size, table_words}
 use Rattle.model.specs.TableCalls.{open_number, open_words, board_in, table_answer, table_after, table_returns, phase_words, table_seen}
 use Rattle.model.specs.Script.{Line, writes, reads, delivers, crashes, malformed, line_of, call_of, caller, stepped, step_line}
@@ -28,39 +28,42 @@ use Rattle.runs.proofs.Words.{last_held}
 use Rattle.records.proofs.Laws.{zero_value_lem}
 use Rattle.member_block.specs.declared.Outcome.{Outcome}
 use Rattle.member_block.specs.Results.{returned_in}
-use Rattle.script.specs.declared.Line.{Line as LineStruct}
-use Rattle.script.specs.Meaning.{held_line, given, Printed}
+use Rattle.std.specs.Prelude.{Option as CodeOption, Some, None}
+use Rattle.rules.specs.Refusals.{number}
+use Rattle.rules.specs.declared.refusal.Refusal.{Refusal}
+use Rattle.script.specs.declared.Line.{Line as LineRead}
+use Rattle.script.specs.declared.Line.TheVariants.{Write, Read, Deliver, Crash}
+use Rattle.script.specs.Meaning.{held_line, line_member, Printed}
 use Rattle.script_run.specs.Feeding.{Event, printed_event, printed_events}
-use Rattle.script_run.specs.Meaning.{call_for, call_by, Shows, StepHeld, events_of, EventsHeld, Whole, Wrote}
+use Rattle.script_run.specs.Meaning.{call_by, outcome_number, outcome_value, Shows, StepHeld, EventsHeld, Whole, Wrote}
 use Rattle.script_run.specs.declared.Done.{Done}
-use Rattle.script_run.specs.declared.Event.{Event as EventStruct}
+use Rattle.script_run.specs.declared.Event.{Event as EventSeen}
+use Rattle.script_run.specs.declared.Event.TheVariants.{Refused, Opened, Step as StepSeen}
 
 -- Lines.
 
-pub no_call : (l : Line) → (held_line l).kind ≡ 0 → call_of l ≡ none
-unfolding held_line call_of
-no_call (writes m v) h = absurd (omega arith)
-no_call (reads m r) h = absurd (omega arith)
-no_call (delivers m) h = absurd (omega arith)
-no_call (crashes m) h = absurd (omega arith)
+pub no_call : (l : Line) → None ≡ held_line l → call_of l ≡ none
+unfolding call_of
+no_call (writes m v) h = cc
+no_call (reads m r) h = cc
+no_call (delivers m) h = cc
+no_call (crashes m) h = cc
 no_call malformed h = refl
 
-pub some_call : (l : Line) → ((held_line l).kind ≡ 0 → ⊥)
-    → call_of l ≡ some (call_for (held_line l).kind (held_line l).member (held_line l).argument)
-unfolding held_line call_of call_for
-some_call (writes m v) h = refl
-some_call (reads m r) h = refl
-some_call (delivers m) h = refl
-some_call (crashes m) h = refl
-some_call malformed h = absurd (h refl)
+pub some_call : (l : Line) (read : LineRead) → Some read ≡ held_line l → call_of l ≡ some (call_by read)
+unfolding call_of
+some_call (writes m v) read h = let e : Write m v ≡ read = cc in ap (λ r. some (call_by r)) e
+some_call (reads m r) read h = let e : Read m r ≡ read = cc in ap (λ r. some (call_by r)) e
+some_call (delivers m) read h = let e : Deliver m ≡ read = cc in ap (λ r. some (call_by r)) e
+some_call (crashes m) read h = let e : Crash m ≡ read = cc in ap (λ r. some (call_by r)) e
+some_call malformed read h = cc
 
-pub caller_for : (kind m a : ℕ) → caller (call_for kind m a) ≡ m
-unfolding caller call_for
-caller_for kind m a = on (eqb kind 1)
-    (λ p. rw p)
-    (λ p. on (eqb kind 2)
-    (λ q. rw (p, q))
-    (λ q. on (eqb kind 3) (λ r. rw (p, q, r)) (λ r. rw (p, q, r))))
+pub caller_by : (line : LineRead) → caller (call_by line) ≡ line_member line
+unfolding caller
+caller_by (Write m v) = refl
+caller_by (Read m r) = refl
+caller_by (Deliver m) = refl
+caller_by (Crash m) = refl
 
 -- Values.
 
@@ -73,21 +76,11 @@ value_last v =
 
 -- The calls that the code makes: each returns no value but deliver.
 
-pub call_write : (kind m a : ℕ) → kind ≡ 1 → call_for kind m a ≡ begin m m 2 (value_of (words (0 ∷ 0 ∷ 0 ∷ 0 ∷ 0 ∷ 0 ∷ 0 ∷ a ∷ [])))
-unfolding call_for
-call_write kind m a h = rw h (ap (begin m m 2) (sym (value_last a)))
+pub call_write : (m v : ℕ) → call_by (Write m v) ≡ begin m m 2 (value_of (words (0 ∷ 0 ∷ 0 ∷ 0 ∷ 0 ∷ 0 ∷ 0 ∷ v ∷ [])))
+call_write m v = ap (begin m m 2) (sym (value_last v))
 
-pub call_read : (kind m a : ℕ) → kind ≡ 2 → call_for kind m a ≡ begin m a 1 (value_of (words (replicate 8 0)))
-unfolding call_for
-call_read kind m a h = rw h (ap (begin m a 1) (sym zero_value_lem))
-
-pub call_deliver : (kind m a : ℕ) → kind ≡ 3 → call_for kind m a ≡ deliver m
-unfolding call_for
-call_deliver kind m a h = rw h
-
-pub call_crash : (kind m a : ℕ) → (kind ≡ 1 → ⊥) → (kind ≡ 2 → ⊥) → (kind ≡ 3 → ⊥) → call_for kind m a ≡ crash m
-unfolding call_for
-call_crash kind m a p q r = rw (ne_eqb kind 1 p, ne_eqb kind 2 q, ne_eqb kind 3 r)
+pub call_read : (m r : ℕ) → call_by (Read m r) ≡ begin m r 1 (value_of (words (replicate 8 0)))
+call_read m r = ap (begin m r 1) (sym zero_value_lem)
 
 pub begin_silent : (m r t : ℕ) (v : Value) (b : Board) → done_returns b (begin m r t v) ≡ none
 unfolding done_returns
@@ -102,85 +95,81 @@ unfolding table_returns
 silent_returns l call h = on (eqb (table_answer concur l call) 0) (λ p. rw p (h (board_in l))) (λ p. rw p)
 
 pub call_plain : (l : List ℕ) (call made : Call) → call ≡ made → ((b : Board) → done_returns b made ≡ none)
-    → (r : Outcome) (number : ℕ) (after : List ℕ) → r.number ≡ number → returned_in r ≡ none
-    → number ≡ table_answer concur l made → after ≡ table_after concur l made
-    → (r.number ≡ table_answer concur l call) × ((returned_in r ≡ table_returns concur l call) × (after ≡ table_after concur l call))
-call_plain l call made e h r number after p q a t = rw e
+    → (r : Outcome) (answer : ℕ) (after : List ℕ) → outcome_number r ≡ answer → outcome_value r ≡ none
+    → answer ≡ table_answer concur l made → after ≡ table_after concur l made
+    → (outcome_number r ≡ table_answer concur l call) × ((outcome_value r ≡ table_returns concur l call) × (after ≡ table_after concur l call))
+call_plain l call made e h r answer after p q a t = rw e
     (p ∙ a, (q ∙ sym (silent_returns l made h), t))
 
 -- A step, by what its call answers.
 
-module _ (table line : List ℕ) (read : LineStruct) (e : read ≡ held_line (line_of line)) where
-  pub step_malformed : read.kind ≡ 0 → step_line concur table line ≡ record { table = table; happened = none }
+module _ (table line : List ℕ) where
+  pub step_malformed : None ≡ held_line (line_of line) → step_line concur table line ≡ record { table = table; happened = none }
   unfolding step_line stepped
-  step_malformed k = rw (no_call (line_of line) (ap (λ r. r.kind) (sym e) ∙ k))
+  step_malformed h = rw (no_call (line_of line) h)
 
-  pub step_made : (read.kind ≡ 0 → ⊥) → step_line concur table line
+  pub step_made : (read : LineRead) → Some read ≡ held_line (line_of line) → step_line concur table line
       ≡ record {
         table = table_after concur table (call_by read);
         happened = some (step (call_by read) (table_seen concur table (call_by read)));
       }
   unfolding step_line stepped
-  step_made k = rw (some_call (line_of line) (λ h. k (ap (λ r. r.kind) e ∙ h)) ∙ ap (λ r. some (call_by r)) (sym e))
+  step_made read h = rw (some_call (line_of line) read h)
 
 -- What was seen at the call of a line, as it is held.
-pub call_shown : (table : List ℕ) (read : LineStruct) (call : Call) (outcome : Outcome) (after : List ℕ) (phase : ℕ)
-    → 0 < read.kind → call ≡ call_by read
-    → outcome.number ≡ table_answer concur table call → returned_in outcome ≡ table_returns concur table call
-    → after ≡ table_after concur table call → phase ≡ phase_words after read.member
+pub call_shown : (table : List ℕ) (read : LineRead) (outcome : Outcome) (after : List ℕ) (phase : ℕ) → let call = call_by read in
+    outcome_number outcome ≡ table_answer concur table call → outcome_value outcome ≡ table_returns concur table call
+    → after ≡ table_after concur table call → phase ≡ phase_words after (line_member read)
     → Shows (record { line = read; outcome = outcome; phase = phase }) call (table_seen concur table call)
 unfolding table_seen
-call_shown table read call outcome after phase k m a r t p = record {
-  kind = k;
-  made = m;
+call_shown table read outcome after phase a r t p = record {
+  made = refl;
   answer = sym a;
-  phase = ap (λ l. phase_words l read.member) (sym t) ∙ sym p;
+  phase = ap (λ l. phase_words l (line_member read)) (sym t) ∙ sym p;
   returned = sym r;
 }
 
 -- What is printed of a step that is held.
 
-last_word_lem : (r : Outcome) → last_word (returned_in r) ≡ given r.returned (words r.value 7)
+pub last_word_lem : (r : Outcome) → last_word (outcome_value r) ≡ cond r.returned (some (words r.value 7)) none
 unfolding last_word returned_in value_of numbered inside
 last_word_lem r = on r.returned (λ p. rw p) (λ p. rw p)
 
-phase_given : (kind number phase : ℕ) → 0 < kind → given (not (eqb kind 0 || eqb number 4)) phase ≡ cond (eqb number 4) none (some phase)
-phase_given kind number phase k = rw (ne_eqb kind 0 (omega arith)) (on (eqb number 4) (λ p. rw p) (λ p. rw p))
+pub malformed_shown : (k : ℕ) (s : Option Step) → StepHeld None s → printed_step k s ≡ printed_line k 17 none none
+unfolding printed_step
+malformed_shown k none h = refl
+malformed_shown k (some s) h = absurd h
 
-abbrev shown_line : ℕ → Done → List ℕ
-shown_line k d =
-    printed_line k d.outcome.number (given (not (eqb d.line.kind 0 || eqb d.outcome.number 4)) d.phase)
-    (given d.outcome.returned (words d.outcome.value 7))
-
-pub step_shown : (k : ℕ) (d : Done) (s : Option Step) → StepHeld d s → printed_step k s ≡ shown_line k d
-unfolding printed_step last_word
-step_shown k d none h =
-    let word : given d.outcome.returned (words d.outcome.value 7) ≡ none = sym (last_word_lem d.outcome) ∙ ap last_word h.1.1 in
-    rw (h.0, h.1.0, word)
-step_shown k d (some (step call s)) h =
-    let who : caller call ≡ d.line.member = ap caller h.made ∙ caller_for d.line.kind d.line.member d.line.argument in
-    rw (h.answer, who, h.phase, h.returned, last_word_lem d.outcome)
-    (ap (λ o. printed_line k d.outcome.number o (given d.outcome.returned (words d.outcome.value 7)))
-    (sym (phase_given d.line.kind d.outcome.number d.phase h.kind)))
+pub step_shown : (k : ℕ) (d : Done) (s : Option Step) → StepHeld (Some d) s
+    → printed_step k s ≡ printed_line k (outcome_number d.outcome)
+    (cond (eqb (outcome_number d.outcome) 4) none (some d.phase)) (last_word (outcome_value d.outcome))
+unfolding printed_step
+step_shown k d none h = absurd h
+step_shown k d (some (step call s)) h = rw (h.answer, ap caller h.made ∙ caller_by d.line, h.phase, h.returned)
 
 -- What is printed of the events that are held.
 
-module _ (e : EventStruct) (l : List Event) (h : EventsHeld e l) where
-  pub nothing_shown : e.kind ≡ 0 → printed_events l ≡ []
-  unfolding events_of printed_events
-  nothing_shown k = rw (h.events, k)
+pub nothing_shown : (l : List Event) → EventsHeld None l → printed_events l ≡ []
+unfolding printed_events
+nothing_shown l h = rw h
 
-  pub refused_shown : e.kind ≡ 1 → printed_events l ≡ refused_line e.number
-  unfolding events_of printed_events printed_event
-  refused_shown k = rw (h.events, k, append-nil)
+module _ (e : EventSeen) (l : List Event) (h : EventsHeld (Some e) l) where
+  pub one_shown : printed_events l ≡ printed_event h.0
+  unfolding printed_events
+  one_shown = rw (h.1, append-nil)
 
-  pub opened_shown : e.kind ≡ 2 → printed_events l ≡ board_line e.number
-  unfolding events_of printed_events printed_event
-  opened_shown k = rw (h.events, k, append-nil)
+pub refused_shown : (refusal : Refusal) (l : List Event) → EventsHeld (Some (Refused refusal)) l → printed_events l ≡ refused_line (number refusal)
+unfolding printed_event
+refused_shown refusal l h = one_shown (Refused refusal) l h ∙ rw h.2
 
-  pub stepped_shown : (e.kind ≡ 0 → ⊥) → (e.kind ≡ 1 → ⊥) → (e.kind ≡ 2 → ⊥) → printed_events l ≡ printed_step e.number h.happened
-  unfolding events_of printed_events printed_event
-  stepped_shown a b c = rw (h.events, ne_eqb e.kind 0 a, ne_eqb e.kind 1 b, ne_eqb e.kind 2 c, append-nil)
+pub opened_shown : (n : ℕ) (l : List Event) → EventsHeld (Some (Opened n)) l → printed_events l ≡ board_line n
+unfolding printed_event
+opened_shown n l h = one_shown (Opened n) l h ∙ rw h.2.0
+
+pub stepped_shown : (k : ℕ) (done : CodeOption Done) (l : List Event) (h : EventsHeld (Some (StepSeen k done)) l)
+    → printed_events l ≡ printed_step k h.2.happened
+unfolding printed_event
+stepped_shown k done l h = one_shown (StepSeen k done) l h ∙ rw h.2.is
 
 -- Tables.
 

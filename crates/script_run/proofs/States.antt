@@ -5,7 +5,7 @@ use native.Mathlib.Omega.{arith}
 use mathlib.Core.Path.{◌≡◌, refl, sym, ap, subst, ◌∙◌}
 use mathlib.Core.Bool.{Bool, true, false, cond, not, ◌||◌, ◌&&◌}
 use mathlib.Core.List.{List, [], ◌∷◌, ◌++◌, append-nil}
-use mathlib.Core.Option.{Option, none, some}
+use mathlib.Core.Option.{none, some}
 use lib.Dec.{eqb, ltb}
 use lib.ListN.{length, take, drop, set, length-append, length-drop}
 use lib.Seq.{take-add, take-take, take_all, take-append_seam, length-take-le, take-suc, take-suc-set}
@@ -20,11 +20,14 @@ use Rattle.model.specs.Script.{first_of, step_line, most_steps}
 use Rattle.script.specs.Meaning.{longest_printed}
 use Rattle.script_run.specs.Feeding.{State, Event, refuses, opens, steps, Fed, most_kept, over_step, over, start, keep, ended}
 use Rattle.script_run.specs.Feeding.{first_run, step_run, line_run, silent, byte_fed, fed, last_events, printed_events}
-use Rattle.script_run.specs.Meaning.{events_of, EventsHeld, Whole, most_words, state_of, Ready, Ran, Took, Wrote, FedInto}
+use Rattle.std.specs.Prelude.{Some, None}
+use Rattle.rules.specs.Refusals.{number}
+use Rattle.rules.specs.declared.refusal.Refusal.{Refusal}
+use Rattle.script_run.specs.Meaning.{EventHeld, EventsHeld, Whole, most_words, state_of, Ready, Ran, Took, Wrote, FedInto}
 use Rattle.script_run.specs.declared.Progress.{Progress}
-use Rattle.script_run.specs.declared.Event.{Event as EventStruct}
+use Rattle.script_run.specs.declared.Event.TheVariants.{Refused}
 use Rattle.script_run.specs.declared.Ended.{Ended}
-use Rattle.script_run.specs.declared.Fed.{Fed as FedStruct}
+use Rattle.script_run.specs.declared.Fed.{Fed as FedSeen}
 use Rattle.script_run.specs.declared.Written.{Written}
 use Rattle.script_run.proofs.Streams.{fed_append, printed_append}
 use Rattle.script_run.proofs.Held.{wrote_front}
@@ -103,16 +106,15 @@ kept_state p table kept b count kept' h e k =
 -- What the code leaves at the end of a line.
 
 module _ (p : Progress) (table kept : List ℕ) (ready : Ready p table kept) (run : Fed) (r : Ended) where
-  pub refused_ran : (number : ℕ) → run ≡ ended over_step (take p.size table) (refuses number)
-      → r.progress ≡ record { step = over_step; size = p.size; kept = 0 } → EventsHeld r.event (refuses number ∷ [])
-      → Ran run r table kept
+  pub refused_ran : (refusal : Refusal) → run ≡ ended over_step (take p.size table) (refuses (number refusal))
+      → r ≡ record { progress = record { step = over_step; size = p.size; kept = 0 }; event = Refused refusal } → Ran run r table kept
   unfolding state_of
-  refused_ran number e g h = record {
+  refused_ran refusal e g = record {
     ready =
         rw g
         (record { room = ready.room; keeps = ready.keeps; line = omega arith; size = ready.size; whole = λ a b. absurd (omega arith) });
-    state = ap (λ q. state_of q table kept) g ∙ ap (λ f. f.state) (sym e);
-    events = rw e h;
+    state = ap (λ q. state_of q.progress table kept) g ∙ ap (λ f. f.state) (sym e);
+    events = rw (g, e) (refuses (number refusal), refl, refl);
   }
 
   -- the table's part was lent and came back as `part`
@@ -121,7 +123,7 @@ module _ (p : Progress) (table kept : List ℕ) (ready : Ready p table kept) (ru
     front = ap (λ k. take k (part ++ drop size table)) (sym long) ∙ take-append_seam part (drop size table)
 
     pub ended-ran : (event : Event) → run ≡ ended next part event → r.progress ≡ record { step = next; size = size; kept = 0 }
-        → EventsHeld r.event (event ∷ []) → Ran run r (part ++ drop size table) kept
+        → EventHeld r.event event → Ran run r (part ++ drop size table) kept
     unfolding state_of
     ended-ran event e g h = record {
       ready =
@@ -137,7 +139,7 @@ module _ (p : Progress) (table kept : List ℕ) (ready : Ready p table kept) (ru
           ap (λ q. state_of q (part ++ drop size table) kept) g
           ∙ ap (λ t. record { step = next; table = t; kept = [] }) front
           ∙ ap (λ f. f.state) (sym e);
-      events = rw e h;
+      events = rw e (event, refl, h);
     }
 
 -- One byte more of those that are fed: a line that goes on, and one that ends.
@@ -154,47 +156,28 @@ pub fed_more : (s : State) (bytes : List ℕ) (i : ℕ) (t : State) → i < leng
 fed_more s bytes i t h e =
     ap (fed concur s) (ap (λ k. take k bytes) (add-one i) ∙ take-suc bytes i 0 h) ∙ fed_one s (take i bytes) t (words bytes i) e
 
--- A line that ends has one event, and an event that stands for some has a kind.
-
-first_one : (table : List ℕ) (o : Option ℕ) → length (first_run concur table o).events ≡ 1
-unfolding first_run
-first_one table none = refl
-first_one table (some n) = on (inside 12 n) (λ h. rw h) (λ h. rw h)
-
-line_one : (s : State) → length (line_run concur s).events ≡ 1
-unfolding line_run step_run
-line_one s = on (eqb s.step 0) (λ z. rw z (first_one s.table (first_of s.kept))) (λ z. rw z)
-
-event_kind : (e : EventStruct) (l : List Event) → EventsHeld e l → length l ≡ 1 → 0 < e.kind
-unfolding events_of
-event_kind e l h one = on (eqb e.kind 0)
-    (λ z. let none-held : l ≡ [] = h.events ∙ rw z in let n : length l ≡ 0 = ap length none-held in absurd (omega arith))
-    (λ z. let n : e.kind ≡ 0 → ⊥ = eqb-false e.kind 0 z in omega arith)
-
 -- What `take_line` leaves, p being what it was given and q what holds the state in the end.
 module _ (p : Progress) (table kept bytes : List ℕ) (q : Progress) (table' kept' : List ℕ) where
   -- no line ended
-  pub none_took : (r : FedStruct) → Ready q table' kept' → (r.progress ≡ q) × ((r.taken ≡ length bytes) × (EventsHeld r.event []))
-      → fed concur (state_of p table kept) bytes ≡ silent (state_of q table' kept') → Took p table kept bytes r table' kept'
-  none_took r ready e whole =
-      let all : fed concur (state_of p table kept) (take r.taken bytes) ≡ silent (state_of q table' kept') =
-      ap (λ k. fed concur (state_of p table kept) (take k bytes)) e.1.0
-      ∙ ap (fed concur (state_of p table kept)) (take_all (length bytes) bytes (omega arith))
-      ∙ whole in
+  pub none_took : Ready q table' kept' → fed concur (state_of p table kept) bytes ≡ silent (state_of q table' kept')
+      → Took p table kept bytes (record { progress = q; taken = length bytes; event = None }) table' kept'
+  none_took ready whole =
+      let all : fed concur (state_of p table kept) (take (length bytes) bytes) ≡ silent (state_of q table' kept') =
+      ap (fed concur (state_of p table kept)) (take_all (length bytes) bytes (omega arith)) ∙ whole in
       record {
-        within = omega (arith, e.1.0);
-        some = λ h. omega (arith, e.1.0);
-        all = λ h. absurd (omega (arith, e.1.0));
-        ready = subst (λ g. Ready g table' kept') (sym e.0) ready;
-        state = ap (λ g. state_of g table' kept') e.0 ∙ ap (λ f. f.state) (sym all);
-        events = subst (EventsHeld r.event) (ap (λ f. f.events) (sym all)) e.1.1;
+        within = omega arith;
+        some = λ h. h;
+        all = λ h. absurd (omega arith);
+        ready = ready;
+        state = ap (λ f. f.state) (sym all);
+        events = ap (λ f. f.events) all;
       }
 
   -- the byte at i ended the line that q held
   pub line_took : (i : ℕ) → i < length bytes → fed concur (state_of p table kept) (take i bytes) ≡ silent (state_of q table' kept')
       → q.step ≤ most_steps → words bytes i ≡ 10
       → (r : Ended) (table'' : List ℕ) → Ran (line_run concur (state_of q table' kept')) r table'' kept'
-      → Took p table kept bytes (record { progress = r.progress; taken = i + 1; event = r.event }) table'' kept'
+      → Took p table kept bytes (record { progress = r.progress; taken = i + 1; event = Some r.event }) table'' kept'
   line_took i h e going feed r table'' ran =
       let s = state_of q table' kept' in
       let all : fed concur (state_of p table kept) (take (i + 1) bytes) ≡ line_run concur s =
@@ -202,10 +185,10 @@ module _ (p : Progress) (table kept bytes : List ℕ) (q : Progress) (table' kep
       record {
         within = omega arith;
         some = λ f. omega arith;
-        all = λ f. event_kind r.event (line_run concur s).events ran.events (line_one s);
+        all = λ f. refl;
         ready = ran.ready;
         state = ran.state ∙ ap (λ f. f.state) (sym all);
-        events = subst (EventsHeld r.event) (ap (λ f. f.events) (sym all)) ran.events;
+        events = subst (EventsHeld (Some r.event)) (ap (λ f. f.events) (sym all)) ran.events;
       }
 
 -- what is left of the bytes, as it is lent
@@ -234,7 +217,7 @@ fed_then s bytes i j t h e =
 -- a line more, and what it prints behind what was printed
 pub fed_into_more : (p : Progress) (table₀ kept₀ bytes : List ℕ) (w : Written) (table kept out : List ℕ)
     → FedInto p table₀ kept₀ bytes w table kept out
-    → (r : FedStruct) (table' kept' out' : List ℕ) (next : ℕ)
+    → (r : FedSeen) (table' kept' out' : List ℕ) (next : ℕ)
     → Took w.progress table kept (take (length bytes - w.taken) (drop w.taken bytes)) r table' kept'
     → ((l : List Event) → EventsHeld r.event l → Wrote out out' w.written (printed_events l) next)
     → FedInto p table₀ kept₀ bytes (record { progress = r.progress; taken = w.taken + r.taken; written = next }) table' kept' out'

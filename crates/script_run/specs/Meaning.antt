@@ -1,70 +1,90 @@
 -- How the code holds what the definitions speak of, and what its functions require and promise each other.
-use Rattle.std.specs.Prelude.{ℕ, ◌≤◌, ◌<◌, ◌≡◌, true, cond, List, [], ◌∷◌, eqb, length, take}
-use Rattle.std.proofs.Math.Option.{Option, none, some}
+use Rattle.std.specs.Prelude.{ℕ, ◌≤◌, ◌<◌, ◌≡◌, true, List, [], ◌∷◌, length, take, Option, Some, None, IsSome, Result, Ok, Err}
+use Rattle.std.proofs.Math.Option.{Option as Given, none, some}
 use Rattle.lists.specs.Functions.{put, Within}
 use Rattle.lists.specs.Parts.{words}
-use Rattle.model.specs.Records.{zero_value, read, write}
+use Rattle.model.specs.Records.{Value, zero_value, read, write}
 use Rattle.model.specs.Runs.{Call, begin, deliver, crash, Seen, Step, step}
+use Rattle.model.specs.Board.{opened}
 use Rattle.model.specs.Kinds.{concur}
+use Rattle.model.specs.Table.{table_words}
 use Rattle.model.specs.Script.{first_of, most_steps}
+use Rattle.rules.specs.Refusals.{number}
+use Rattle.rules.specs.declared.refusal.Refusal.{Refusal}
 use Rattle.member_block.specs.Results.{returned_in}
-use Rattle.script.specs.Meaning.{Printed}
-use Rattle.script.specs.declared.Line.{Line as LineStruct}
+use Rattle.member_block.specs.declared.Outcome.{Outcome}
+use Rattle.script.specs.Meaning.{line_member, Printed}
+use Rattle.script.specs.declared.Line.{Line as LineRead}
+use Rattle.script.specs.declared.Line.TheVariants.{Write, Read, Deliver, Crash}
 use Rattle.tables.specs.Needs.{Table}
-use Rattle.script_run.specs.Feeding.{State, Event, refuses, opens, steps, Fed, most_kept, over, first_run, fed, last_events}
+use Rattle.script_run.specs.Feeding.{State, Event, refuses, opens, steps, Fed, most_kept, over_step, over, ended, first_run, fed, last_events}
 use Rattle.script_run.specs.Feeding.{printed_events}
 use Rattle.script_run.specs.declared.Progress.{Progress}
 use Rattle.script_run.specs.declared.Done.{Done}
-use Rattle.script_run.specs.declared.Event.{Event as EventStruct}
+use Rattle.script_run.specs.declared.Event.{Event as EventSeen}
+use Rattle.script_run.specs.declared.Event.TheVariants.{Refused, Opened, Step as StepSeen}
 use Rattle.script_run.specs.declared.Ended.{Ended}
-use Rattle.script_run.specs.declared.Fed.{Fed as FedStruct}
+use Rattle.script_run.specs.declared.Fed.{Fed as FedSeen}
 use Rattle.script_run.specs.declared.Written.{Written}
 
 -- What a line did.
 
--- the call of a line as the code holds it: kinds 1 write, 2 read, 3 deliver, 4 crash
-unfoldable pub call_for : ℕ → ℕ → ℕ → Call
-call_for kind member argument =
-    cond (eqb kind 1) (begin member member write (put zero_value 8 argument))
-    (cond (eqb kind 2) (begin member argument read zero_value)
-    (cond (eqb kind 3) (deliver member)
-    (crash member)))
+-- what a call answered by number, and the value that it returned
+abbrev pub outcome_number : Outcome → ℕ
+outcome_number r = r.number
 
-abbrev pub call_by : LineStruct → Call
-call_by line = call_for line.kind line.member line.argument
+abbrev pub outcome_value : Outcome → Given Value
+outcome_value r = returned_in r
+
+-- the call of a line as the code holds it
+abbrev pub call_by : LineRead → Call
+call_by (Write m v) = begin m m write (put zero_value 8 v)
+call_by (Read m r) = begin m r read zero_value
+call_by (Deliver m) = deliver m
+call_by (Crash m) = crash m
 
 -- a call as the code holds it, and what was seen at it: the answer, the caller's phase, and the value returned
 pub record Shows (d : Done) (call : Call) (s : Seen) : Type 0 where
-  pub kind : 0 < d.line.kind
   pub made : call ≡ call_by d.line
-  pub answer : s.answer ≡ d.outcome.number
-  pub phase : s.phases d.line.member ≡ d.phase
-  pub returned : s.returned ≡ returned_in d.outcome
+  pub answer : s.answer ≡ outcome_number d.outcome
+  pub phase : s.phases (line_member d.line) ≡ d.phase
+  pub returned : s.returned ≡ outcome_value d.outcome
 
--- a step as the code holds it: of a malformed line, of kind 0, the answer is 17, and nothing is returned
-abbrev pub StepHeld : Done → Option Step → Type 0
-StepHeld d none = (d.line.kind ≡ 0) × ((d.outcome.number ≡ 17) × (returned_in d.outcome ≡ none))
-StepHeld d (some (step call s)) = Shows d call s
+-- a step as the code holds it: a malformed line makes no call
+abbrev pub StepHeld : Option Done → Given Step → Type 0
+StepHeld None none = Unit {0}
+StepHeld None (some s) = ⊥
+StepHeld (Some d) none = ⊥
+StepHeld (Some d) (some (step call s)) = Shows d call s
 
 -- a step whose answer is 0 is one of a member's
-abbrev pub Made : Done → Type 0
-Made d = d.outcome.number ≡ 0 → Within 12 d.line.member
+abbrev pub Made : Option Done → Type 0
+Made None = Unit {0}
+Made (Some d) = outcome_number d.outcome ≡ 0 → Within 12 (line_member d.line)
 
--- the events that a kind stands for, none or one: 0 nothing, 1 a first line refused, 2 a board opened, 3 a step
-unfoldable pub events_of : ℕ → ℕ → Option Step → List Event
-events_of kind number s =
-    cond (eqb kind 0) []
-    (cond (eqb kind 1) (refuses number ∷ [])
-    (cond (eqb kind 2) (opens number ∷ [])
-    (steps number s ∷ [])))
+-- an event as the code holds it: a board that was opened has 12 members at most
+pub record StepIs (k : ℕ) (done : Option Done) (event : Event) : Type 0 where
+  pub happened : Given Step
+  pub is : event ≡ steps k happened
+  pub held : StepHeld done happened
+  pub made : Made done
 
-pub record EventsHeld (e : EventStruct) (l : List Event) : Type 0 where
-  pub happened : Option Step
-  pub held : StepHeld e.done happened
-  pub events : l ≡ events_of e.kind e.number happened
-  pub made : Made e.done
-  -- a board that was opened has 12 members at most
-  pub size : e.kind ≡ 2 → e.number ≤ 12
+abbrev pub EventHeld : EventSeen → Event → Type 0
+EventHeld (Refused refusal) event = event ≡ refuses (number refusal)
+EventHeld (Opened n) event = (event ≡ opens n) × (n ≤ 12)
+EventHeld (StepSeen k done) event = StepIs k done event
+
+-- the events that the code holds, none or one
+abbrev pub EventsHeld : Option EventSeen → List Event → Type 0
+EventsHeld None l = l ≡ []
+EventsHeld (Some e) l = (event : Event) × (l ≡ event ∷ []) × EventHeld e event
+
+-- what is known of the step among them
+abbrev pub MadeIn : Option EventSeen → Type 0
+MadeIn None = Unit {0}
+MadeIn (Some (Refused refusal)) = Unit {0}
+MadeIn (Some (Opened n)) = Unit {0}
+MadeIn (Some (StepSeen k done)) = Made done
 
 -- States.
 
@@ -94,17 +114,22 @@ pub record Ready (p : Progress) (table kept : List ℕ) : Type 0 where
 pub record Ran (run : Fed) (r : Ended) (table kept : List ℕ) : Type 0 where
   pub ready : Ready r.progress table kept
   pub state : state_of r.progress table kept ≡ run.state
-  pub events : EventsHeld r.event run.events
+  pub events : EventsHeld (Some r.event) run.events
 
 -- the run of the first line that the lent words and bytes hold
 abbrev pub first_line : Progress → List ℕ → List ℕ → Fed
 first_line p table kept = first_run concur (take p.size table) (first_of (take p.kept kept))
 
+-- where the first line ends: it is refused, or opens a board of n members
+abbrev pub first_ended : List ℕ → Result ℕ Refusal → Fed
+first_ended table (Err refusal) = ended over_step table (refuses (number refusal))
+first_ended table (Ok n) = ended 1 (table_words n (opened n)) (opens n)
+
 -- bytes that were fed, from the first on: all of them, unless a line ended before
-pub record Took (p : Progress) (table kept bytes : List ℕ) (r : FedStruct) (table' kept' : List ℕ) : Type 0 where
+pub record Took (p : Progress) (table kept bytes : List ℕ) (r : FedSeen) (table' kept' : List ℕ) : Type 0 where
   pub within : r.taken ≤ length bytes
   pub some : 0 < length bytes → 0 < r.taken
-  pub all : r.taken < length bytes → 0 < r.event.kind
+  pub all : r.taken < length bytes → IsSome r.event
   pub ready : Ready r.progress table' kept'
   pub state : state_of r.progress table' kept' ≡ (fed concur (state_of p table kept) (take r.taken bytes)).state
   pub events : EventsHeld r.event (fed concur (state_of p table kept) (take r.taken bytes)).events

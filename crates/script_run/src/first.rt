@@ -1,32 +1,29 @@
 // The first line of a script: it opens the board, or the script is over.
-ghost use Rattle.std.specs.Prelude.{◌≡◌, [], ◌∷◌};
-ghost use Rattle.script_run.specs.Feeding.{refuses, over_step};
-ghost use Rattle.script_run.specs.Meaning.{EventsHeld, Ready, Ran, first_line};
+ghost use Rattle.std.specs.Prelude.{◌≡◌, List, ℕ, IfOk};
+ghost use Rattle.lists.specs.Functions.{Within};
+ghost use Rattle.model.specs.Kinds.{concur};
+ghost use Rattle.model.specs.Script.{first_of};
+ghost use Rattle.script_run.specs.Feeding.{first_run};
+ghost use Rattle.script_run.specs.Meaning.{Ready, Ran, first_line, first_ended};
 
-use crate::lines::no_step;
 use crate::{Ended, Event, MOST_STEPS, Progress};
 use board::open;
-use rules::{MOST_MEMBERS, is_numbered};
+use rules::{MOST_MEMBERS, Refusal, is_numbered};
 use script::parse_members;
 use tables::steps::table_size;
 
-// A first line that a number refuses: nothing follows it.
-fn refuse(p: Progress, number: u32) -> Ended
-    ensures progress_value { result.progress ≡ record { step = over_step; size = p.size; kept = 0 } }
-    ensures events_held { EventsHeld result.event (refuses number ∷ []) }
+// The members of the board that the first line opens.
+fn members_of(line: &[u8]) -> Result<u32, Refusal>
+    ensures ends { (table : List ℕ) → first_run concur table (first_of line.now) ≡ first_ended table result }
+    ensures within { IfOk result (Within 12) }
 {
-    Ended {
-        progress: Progress {
-            step: MOST_STEPS + 1,
-            size: p.size,
-            kept: 0,
-        },
-        event: Event {
-            kind: Event::REFUSED,
-            number,
-            done: no_step(),
-        },
+    let Some(n) = parse_members(line) else {
+        return Err(Refusal::Line);
+    };
+    if !is_numbered(n, MOST_MEMBERS) {
+        return Err(Refusal::Size);
     }
+    Ok(n)
 }
 
 pub fn run_first(table: &mut [u32], kept: &[u8], p: Progress) -> Ended
@@ -34,26 +31,26 @@ pub fn run_first(table: &mut [u32], kept: &[u8], p: Progress) -> Ended
     ensures { Ran (first_line p table.old kept.now) result table.new kept.now }
 {
     let count = p.kept;
-    let members = parse_members(&kept[..count]);
-    if !members.ok {
-        return refuse(p, 17);
-    }
-    let n = members.value;
-    if !is_numbered(n, MOST_MEMBERS) {
-        return refuse(p, 1);
-    }
-    let size = table_size(n as usize);
-    open(&mut table[..size], n);
-    Ended {
-        progress: Progress {
-            step: 1,
-            size,
-            kept: 0,
+    match members_of(&kept[..count]) {
+        Err(refusal) => Ended {
+            progress: Progress {
+                step: MOST_STEPS + 1,
+                size: p.size,
+                kept: 0,
+            },
+            event: Event::Refused(refusal),
         },
-        event: Event {
-            kind: Event::OPENED,
-            number: n,
-            done: no_step(),
-        },
+        Ok(n) => {
+            let size = table_size(n as usize);
+            open(&mut table[..size], n);
+            Ended {
+                progress: Progress {
+                    step: 1,
+                    size,
+                    kept: 0,
+                },
+                event: Event::Opened(n),
+            }
+        }
     }
 }

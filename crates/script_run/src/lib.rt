@@ -3,9 +3,10 @@
 
 ghost use Rattle.std.specs.Prelude.{List, [], ◌∷◌, ◌≡◌, ℕ};
 ghost use Rattle.script_run.specs.Feeding.{over};
-ghost use Rattle.script_run.specs.Meaning.{state_of};
+ghost use Rattle.script_run.specs.Meaning.{outcome_number, state_of};
 
 use member_block::Outcome;
+use rules::Refusal;
 use script::{LONGEST_LINE, Line};
 
 mod calls;
@@ -36,6 +37,7 @@ impl Progress {
     };
 
     // Is the script over, so that nothing more of it is looked at?
+    #[tactic(auto, unfolding(crate::specs::Meaning::state_of))]
     pub fn is_over(self) -> bool
         ensures { (table kept : List ℕ) → result ≡ over (state_of self table kept) }
     {
@@ -43,7 +45,7 @@ impl Progress {
     }
 }
 
-// What a line that is a step did: the line, its answer and the value returned, and the member's phase after it. Malformed: answered 17.
+// What the call of a step's line did: the line, its answer and the value returned, and the member's phase after it.
 #[derive(Clone, Copy)]
 pub struct Done {
     pub line: Line,
@@ -51,23 +53,24 @@ pub struct Done {
     pub phase: u32,
 }
 
-// What happened where a line ended: the first was REFUSED with a number, or the board was OPENED with that many members; the line of that
-// number was a STEP, and did what `done` says. Or no line ended: NOTHING.
-#[derive(Clone, Copy)]
-pub struct Event {
-    pub kind: u32,
-    pub number: u32,
-    pub done: Done,
+impl Done {
+    // What the call answered by number: 0 where it was done.
+    pub fn answer(self) -> u32
+        ensures { result ≡ outcome_number self.outcome }
+    {
+        self.outcome.number
+    }
 }
 
-impl Event {
-    pub const NOTHING: u32 = 0;
-
-    pub const REFUSED: u32 = 1;
-
-    pub const OPENED: u32 = 2;
-
-    pub const STEP: u32 = 3;
+// What happened where a line ended.
+#[derive(Clone, Copy)]
+pub enum Event {
+    // The first line was refused.
+    Refused(Refusal),
+    // A board of so many members was opened.
+    Opened(u32),
+    // The line of that number was a step: what its call did, and none where it is malformed and makes no call, which is answered 17.
+    Step { number: u32, done: Option<Done> },
 }
 
 // A line that was ended: how far the script has come, and what happened.
@@ -77,12 +80,12 @@ pub struct Ended {
     pub event: Event,
 }
 
-// What feeding some bytes did: how far the script has come, how many bytes were taken, and what happened.
+// What feeding some bytes did: how far the script has come, how many bytes were taken, and what happened, if a line ended.
 #[derive(Clone, Copy)]
 pub struct Fed {
     pub progress: Progress,
     pub taken: usize,
-    pub event: Event,
+    pub event: Option<Event>,
 }
 
 // The same of bytes whose events were printed: how many bytes were written.

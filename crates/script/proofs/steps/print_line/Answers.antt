@@ -18,10 +18,10 @@ abbrev f2 : Start → List ℕ
 f2 s = field (some s.args.answer) space
 
 abbrev f3 : Start → List ℕ
-f3 s = field (given s.args.phased s.args.phase) space
+f3 s = field (given s.args.phase) space
 
 abbrev f4 : Start → List ℕ
-f4 s = field (given s.args.returned s.args.value) line_feed
+f4 s = field (given s.args.value) line_feed
 
 -- The places, and the room that is left at each.
 

@@ -8,7 +8,7 @@ use lib.Seq.{length-take-le}
 use Rattle.model.specs.Kinds.{concur}
 use Rattle.model.specs.Script.{step_line}
 use Rattle.script_run.specs.Feeding.{ended, line_run, steps}
-use Rattle.script_run.specs.Meaning.{events_of, Whole, state_of}
+use Rattle.script_run.specs.Meaning.{Whole, state_of}
 use Rattle.script_run.proofs.Held.{step_whole}
 use Rattle.script_run.proofs.States.{line_first, line_step, ended-ran}
 use Rattle.script_run.proofs.lines.end_line.Goals as goal
@@ -39,7 +39,6 @@ returns-then-step-eq0 c =
     rw (line_first a.p a.table.now a.kept.now c.if-step-eq0.true) c.run_first.ensures
 
 pub returns : goal.returns
-unfolding events_of
 returns c =
     let start = (goal.at.returns c).Start in
     let a = c.args in
@@ -51,4 +50,4 @@ returns c =
     (step_whole (lent start) (line start) (whole (goal.at.returns c).Else-step-eq0)) in
     ended-ran a.p a.table.now a.kept.now c.requires.0 (line_run concur (state_of a.p a.table.now a.kept.now)) _
     (a.p.step + 1) a.p.size r.new.table (r.auto.table ∙ lent_long start) c.requires.0.size kept (steps a.p.step happened) e refl
-    (record { happened = happened; held = r.ensures.step_held; events = refl; made = r.ensures.made; size = λ e. absurd (omega arith) })
+    (record { happened = happened; is = refl; held = r.ensures.step_held; made = r.ensures.made })

@@ -1,92 +1,51 @@
 -- `run_line` meets its contract: the line is malformed, or its call is made on the table, which stays whole, and its phase is read after
 -- it.
-use Prim.Native.Nat.{◌<◌}
-use mathlib.Core.Path.{◌≡◌, refl, sym, ap, ◌∙◌}
-use native.Mathlib.Omega.{arith}
+use Rattle.std.specs.Prelude.{Some}
+use mathlib.Core.Path.{sym, ap, ◌∙◌}
 use Rattle.model.specs.Kinds.{concur}
-use Rattle.model.specs.Runs.{Call}
-use Rattle.model.specs.TableCalls.{table_after}
+use Rattle.model.specs.TableCalls.{phase_words}
 use Rattle.model.specs.Script.{step_line}
 use Rattle.script_run.specs.Meaning.{call_by, StepHeld}
 use Rattle.script_run.specs.declared.Done.{Done}
 use Rattle.script_run.proofs.Held.{whole_after, step_malformed, step_made, call_shown}
 use Rattle.script_run.proofs.Made.{line_made}
 use Rattle.script_run.proofs.lines.run_line.Goals as goal
-use Rattle.script_run.proofs.lines.run_line.Goals.{After-make_call-outcome, After-parse_line-read}
+use Rattle.script_run.proofs.lines.run_line.Goals.{After-phase_of-phase}
 
--- What is known at each place, built on the place before.
+-- What is known at the end.
 
-abbrev call : After-parse_line-read → Call
-call c = call_by c.parse_line-read.result
+abbrev done : After-phase_of-phase → Done
+done c = record { line = c.in_ok-line.line; outcome = c.make_call-outcome.result; phase = c.phase_of-phase.result }
 
-left : (c : After-make_call-outcome) → c.make_call-outcome.new.table ≡ table_after concur c.args.table.now
-    (call (goal.at.After-make_call-outcome c).After-parse_line-read)
-left c = c.make_call-outcome.ensures.table_after
+held : (c : After-phase_of-phase) → StepHeld (Some (done c)) (step_line concur c.args.table.now c.args.line.now).happened
+held c =
+    let read = c.in_ok-line.line in
+    let m = c.make_call-outcome in
+    rw (step_made c.args.table.now c.args.line.now read c.in_ok-line.ensures)
+    (call_shown c.args.table.now read m.result m.new.table c.phase_of-phase.result m.ensures.number_value m.ensures.result_value
+    m.ensures.table_after (c.phase_of-phase.ensures ∙ ap (phase_words m.new.table) c.member-member.ensures))
 
--- The needs.
+-- The goals.
 
-pub returns-then-kind-eq-MALFORMED-clause-table_after : goal.returns-then-kind-eq-MALFORMED-clause-table_after
-returns-then-kind-eq-MALFORMED-clause-table_after c =
-    let a = c.args in
-    let e = step_malformed a.table.now a.line.now c.parse_line-read.result c.parse_line-read.ensures c.if-kind-eq-MALFORMED.true in
-    ap (λ s. s.table) (sym e)
+pub returns-in_err-line-clause-table_after : goal.returns-in_err-line-clause-table_after
+returns-in_err-line-clause-table_after c =
+    ap (λ s. s.table) (sym (step_malformed c.args.table.now c.args.line.now c.in_err-line.ensures))
 
-pub returns-then-kind-eq-MALFORMED-clause-step_held : goal.returns-then-kind-eq-MALFORMED-clause-step_held
-returns-then-kind-eq-MALFORMED-clause-step_held c =
-    let a = c.args in
-    let e = step_malformed a.table.now a.line.now c.parse_line-read.result c.parse_line-read.ensures c.if-kind-eq-MALFORMED.true in
-    rw e c.no_step.ensures
+pub returns-in_err-line-clause-step_held : goal.returns-in_err-line-clause-step_held
+returns-in_err-line-clause-step_held c =
+    rw (c.from_residual.ensures, step_malformed c.args.table.now c.args.line.now c.in_err-line.ensures) tt
 
-pub phase_of-requires : goal.phase_of-requires
-phase_of-requires c =
-    rw (left (goal.at.phase_of-requires c).After-make_call-outcome)
-    (whole_after c.args.table.now (call (goal.at.phase_of-requires c).After-parse_line-read) c.requires)
+pub phase_of-phase-requires : goal.phase_of-phase-requires
+phase_of-phase-requires c =
+    rw c.make_call-outcome.ensures.table_after (whole_after c.args.table.now (call_by c.in_ok-line.line) c.requires)
 
 pub returns-clause-table_after : goal.returns-clause-table_after
 returns-clause-table_after c =
-    let at_make_call_outcome = (goal.at.returns-clause-table_after c).After-make_call-outcome in
-    let a = c.args in
-    let r = c.parse_line-read.result in
-    let n = c.if-kind-eq-MALFORMED.false in
-    let e = step_made a.table.now a.line.now r c.parse_line-read.ensures n in
-    let m = c.make_call-outcome in
-    let some : 0 < r.kind = omega arith in
-    let shown =
-    call_shown a.table.now r (call (goal.at.returns-clause-table_after c).After-parse_line-read) m.result m.new.table
-    c.phase_of.result some refl m.ensures.number_value m.ensures.result_value
-    (left at_make_call_outcome) c.phase_of.ensures in
-    let d : Done = record { line = r; outcome = m.result; phase = c.phase_of.result } in
-    let held : StepHeld d (step_line concur a.table.now a.line.now).happened = rw e shown in
-    left at_make_call_outcome ∙ ap (λ s. s.table) (sym e)
+    c.make_call-outcome.ensures.table_after
+    ∙ ap (λ s. s.table) (sym (step_made c.args.table.now c.args.line.now c.in_ok-line.line c.in_ok-line.ensures))
 
 pub returns-clause-step_held : goal.returns-clause-step_held
-returns-clause-step_held c =
-    let a = c.args in
-    let r = c.parse_line-read.result in
-    let n = c.if-kind-eq-MALFORMED.false in
-    let e = step_made a.table.now a.line.now r c.parse_line-read.ensures n in
-    let m = c.make_call-outcome in
-    let some : 0 < r.kind = omega arith in
-    let shown =
-    call_shown a.table.now r (call (goal.at.returns-clause-step_held c).After-parse_line-read) m.result m.new.table
-    c.phase_of.result some refl m.ensures.number_value m.ensures.result_value
-    (left (goal.at.returns-clause-step_held c).After-make_call-outcome) c.phase_of.ensures in
-    let d : Done = record { line = r; outcome = m.result; phase = c.phase_of.result } in
-    let held : StepHeld d (step_line concur a.table.now a.line.now).happened = rw e shown in
-    held
+returns-clause-step_held c = held c
 
 pub returns-clause-made : goal.returns-clause-made
-returns-clause-made c =
-    let a = c.args in
-    let r = c.parse_line-read.result in
-    let n = c.if-kind-eq-MALFORMED.false in
-    let e = step_made a.table.now a.line.now r c.parse_line-read.ensures n in
-    let m = c.make_call-outcome in
-    let some : 0 < r.kind = omega arith in
-    let shown =
-    call_shown a.table.now r (call (goal.at.returns-clause-made c).After-parse_line-read) m.result m.new.table c.phase_of.result
-    some refl m.ensures.number_value m.ensures.result_value
-    (left (goal.at.returns-clause-made c).After-make_call-outcome) c.phase_of.ensures in
-    let d : Done = record { line = r; outcome = m.result; phase = c.phase_of.result } in
-    let held : StepHeld d (step_line concur a.table.now a.line.now).happened = rw e shown in
-    line_made a.table.now a.line.now d c.requires held
+returns-clause-made c = line_made c.args.table.now c.args.line.now (done c) c.requires (held c)

@@ -3,7 +3,7 @@ use mathlib.Core.Path.{◌≡◌, sym, ◌∙◌}
 use mathlib.Core.Bool.{cond}
 use mathlib.Core.List.{[]}
 use native.Mathlib.Omega.{arith}
-use borrow.Author.Tests.{not-true, not-false, ltb-false}
+use borrow.Author.Tests.{ltb-false}
 use Prim.Native.Nat.{◌≤◌}
 use Rattle.model.specs.Kinds.{concur}
 use Rattle.model.specs.Script.{most_steps}
@@ -40,14 +40,10 @@ events c =
 pub returns-then-is_over : goal.returns-then-is_over
 returns-then-is_over c =
     let a = c.args in
-    let o = sym (c.is_over.ensures a.table.now a.kept.now) ∙ c.if-is_over.true in
-    rw (over_last concur (state (goal.at.returns-then-is_over c).Start) o)
-    c.none_ended.ensures.1.1
+    over_last concur (state (goal.at.returns-then-is_over c).Start) (sym (c.if-is_over.ensures a.table.now a.kept.now))
 
 pub returns-then-not-begun : goal.returns-then-not-begun
-returns-then-not-begun c =
-    rw (events (goal.at.returns-then-not-begun c).After-begun, not-true c.begun.result c.if-not-begun.true-raw)
-    c.none_ended-then-not-begun.ensures.1.1
+returns-then-not-begun c = rw (events (goal.at.returns-then-not-begun c).After-begun, c.if-not-begun.true)
 
 pub end_line-requires : goal.end_line-requires
 end_line-requires c =
@@ -55,5 +51,5 @@ end_line-requires c =
 
 pub returns : goal.returns
 returns c =
-    rw (events (goal.at.returns c).After-begun, not-false c.begun.result c.if-not-begun.false-raw)
+    rw (events (goal.at.returns c).After-begun, c.if-not-begun.false)
     c.end_line.ensures.events

@@ -1,7 +1,7 @@
-use Prim.Native.Nat.{ℕ, ◌-◌, ◌≤◌}
+use Prim.Native.Nat.{ℕ, ◌≤◌}
 use mathlib.Core.Path.{◌≡◌}
 use mathlib.Core.List.{List}
-use lib.ListN.{length, take}
+use lib.ListN.{take}
 use Rattle.model.specs.Kinds.{concur}
 use Rattle.model.specs.Script.{most_steps}
 use Rattle.script_run.specs.Feeding.{silent, fed}
@@ -11,14 +11,9 @@ use Rattle.script_run.proofs.steps.take_line.Given as goal
 
 -- the bytes taken so far: none ended a line, and what is kept of it is held
 pub record Upto (p : Progress) (table kept bytes : List ℕ) (line : Progress) (taken : ℕ) (table' kept' : List ℕ) : Type 0 where
-  pub first : Ready p table kept
-  pub within : taken ≤ length bytes
   pub ready : Ready line table' kept'
   pub going : line.step ≤ most_steps
   pub held : fed concur (state_of p table kept) (take taken bytes) ≡ silent (state_of line table' kept')
 
-abbrev pub invariant-loop-taken : goal.invariant-loop-taken
-invariant-loop-taken l = Upto l.initial.line l.initial.table l.initial.kept l.bytes l.line l.taken l.table l.kept
-
-abbrev pub decreases-loop-taken : goal.decreases-loop-taken
-decreases-loop-taken l = length l.bytes - l.taken
+abbrev pub invariant-loop-i : goal.invariant-loop-i
+invariant-loop-i l = Upto l.initial.line l.initial.table l.initial.kept l.bytes l.line l.i l.table l.kept
