@@ -12,10 +12,6 @@ pub mod refusal;
 
 pub use refusal::{Refusal, answered};
 
-pub mod refusal;
-
-pub use refusal::{Refusal, answered};
-
 // The most members of a board.
 pub const MOST_MEMBERS: u32 = 12;
 
