@@ -8,7 +8,7 @@ ghost use Rattle.script_run.specs.Meaning.{most_words};
 use overtaker::steps::answer;
 use overtaker::{Asked, LONGEST_ANSWER};
 use script_run::MOST_WORDS;
-use streams::write_out;
+use streams::{Reported, write_out};
 use tool_input::{read_arguments, read_script};
 
 // Nothing is printed where reading fails.
@@ -18,16 +18,12 @@ fn run(
     input: &mut [u8],
     table: &mut [u32],
     out: &mut [u8],
-)
+) -> Result<(), Reported>
     requires { (length table.old ≡ most_words) × (longest_answer ≤ length out.old) }
 {
-    let read = read_script(rt, asked, input);
-    if !read.ok {
-        return;
-    }
-    let n = read.length;
+    let n = read_script(rt, asked, input)?;
     let end = answer(&input[..n], table, asked, out);
-    write_out(rt, &out[..end]);
+    write_out(rt, &out[..end])
 }
 
 // A buffer of one byte more than a script may have tells one that is too long.
@@ -38,5 +34,6 @@ fn main(rt: HostRuntime) {
     let mut input = [0u8; BUFFER];
     let mut table = [0u32; MOST_WORDS];
     let mut out = [0u8; LONGEST_ANSWER];
-    run(&rt, asked, &mut input, &mut table, &mut out);
+    // The exit status is 0 then too.
+    let _ = run(&rt, asked, &mut input, &mut table, &mut out);
 }

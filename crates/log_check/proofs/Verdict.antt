@@ -1,12 +1,13 @@
 -- Number 0 of the check leaves a board of at most 12 members and room for one word, and the verdict is that word.
 use Prim.Native.Nat.{ℕ, ◌%◌, ◌≤◌}
 use mathlib.Core.Path.{◌≡◌, refl, sym}
-use mathlib.Core.Bool.{Bool}
+use mathlib.Core.Bool.{Bool, true, false}
 use mathlib.Core.List.{List, [], ◌∷◌}
 use native.Mathlib.Omega.{arith}
 use lib.Dec.{eqb}
 use lib.ListN.{length, set}
 use borrow.Author.Tests.{eqb-true}
+use mir.Val.{bool_byte}
 use Rattle.lists.proofs.Functions.{on, inside_high}
 use Rattle.model.specs.Kinds.{most_members, is_size}
 use Rattle.logs.specs.Log.{row_size, log_of, log_number, LogHolds, LogChecked, Says, verdict_word}
@@ -25,6 +26,11 @@ one_word : (l : List ℕ) (x : ℕ) → length l ≡ 1 → set l 0 x ≡ x ∷ [
 one_word [] x e = absurd (omega arith)
 one_word (a ∷ []) x e = refl
 one_word (a ∷ (b ∷ l)) x e = absurd (omega arith)
+
+-- a flag as a number is the verdict's word
+pub word_of : (v : Bool) → bool_byte v ≡ verdict_word v
+word_of true = refl
+word_of false = refl
 
 pub checked : (n : ℕ) (log before : List ℕ) (v : Bool) → log_number n (length log) (length before) ≡ 0
     → Says (LogHolds n (log_of log)) v → LogChecked n log before 0 (set before 0 (verdict_word v))

@@ -3,10 +3,11 @@
 
 ghost use Rattle.std.specs.Prelude.{◌≡◌};
 ghost use Rattle.logs.specs.Log.{log_number, LogChecked};
+ghost use Rattle.rules.specs.Refusals.{answer};
 
 use crate::rows::SIZE;
 use crate::steps::rows_hold;
-use rules::{MOST_MEMBERS, is_numbered};
+use rules::{MOST_MEMBERS, Refusal, is_numbered};
 
 mod rows;
 mod steps;
@@ -15,22 +16,20 @@ mod steps;
 pub const MOST_ROWS: usize = 1024;
 
 // What refuses a log of so many words, and a place for its verdict of so many.
-fn log_number(n: u32, long: usize, room: usize) -> u32
-    ensures { result ≡ log_number n long room }
+#[tactic(auto, unfolding(logs::specs::Log::log_number))]
+fn check_log(n: u32, long: usize, room: usize) -> Result<(), Refusal>
+    ensures { answer result ≡ log_number n long room }
 {
     if !is_numbered(n, MOST_MEMBERS) {
-        return 1;
+        return Err(Refusal::Size);
     }
-    if long % SIZE != 0 {
-        return 2;
-    }
-    if room != 1 {
-        return 2;
+    if long % SIZE != 0 || room != 1 {
+        return Err(Refusal::Length);
     }
     if MOST_ROWS < long / SIZE {
-        return 34;
+        return Err(Refusal::Rows);
     }
-    0
+    Ok(())
 }
 
 // Answers 0 and writes the verdict, 1 yes or 0 no.
@@ -38,14 +37,9 @@ fn log_number(n: u32, long: usize, room: usize) -> u32
 pub extern "C" fn concur_log_check(log: &[u32], n: u32, verdict: &mut [u32]) -> u32
     ensures { LogChecked n log.now verdict.old result verdict.new }
 {
-    let number = log_number(n, log.len(), verdict.len());
-    if number != 0 {
-        return number;
+    if let Err(refusal) = check_log(n, log.len(), verdict.len()) {
+        return refusal.number();
     }
-    if rows_hold(log, n) {
-        verdict[0] = 1;
-        return 0;
-    }
-    verdict[0] = 0;
+    verdict[0] = u32::from(rows_hold(log, n));
     0
 }

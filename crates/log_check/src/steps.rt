@@ -34,11 +34,9 @@ fn row_holds(
     let acceptance = log[at + ACCEPTANCE];
     let end = log[at + END];
     let bar = until[member as usize - 1];
-    if !positions_hold(bar, last, begin, acceptance, end) {
-        return false;
-    }
     let before = written[slot as usize - 1];
-    read_holds(log, operation, end, at + VALUE, before)
+    positions_hold(bar, last, begin, acceptance, end)
+        && read_holds(log, operation, end, at + VALUE, before)
 }
 
 // Does each row of a log hold?
@@ -46,12 +44,10 @@ pub fn rows_hold(log: &[u32], n: u32) -> bool
     requires { n ≤ most_members }
     ensures { Says (LogHolds n (log_of log.now)) result }
 {
-    let count = log.len() / SIZE;
     let mut until = [0; 12];
     let mut written = [0; 12];
     let mut last = 0;
-    let mut k = 0;
-    while k < count {
+    for k in 0..log.len() / SIZE {
         if !row_holds(log, n, k, last, &until, &written) {
             return false;
         }
@@ -64,7 +60,6 @@ pub fn rows_hold(log: &[u32], n: u32) -> bool
         let before = written[s];
         written[s] = written_after(operation, at + VALUE, before);
         last = log[at + ACCEPTANCE];
-        k += 1;
     }
     true
 }

@@ -98,10 +98,10 @@ record_small n r vs p =
 
 -- A message's likewise: the two records are the last.
 pub held_small : (n : ℕ) (m : Message) (vs : List Val) → Is message_type.the_row m vs → small_fields n (fields_in m) ≡ true
-unfolding small_fields fields_in
+unfolding small_fields
 held_small n m vs p =
     let count : Small m.count = omega arith in
-    let behind = p.1.1.1.1.1.1.1.1.1 in
+    let behind = p.1.1.1.1.1.1.1.1 in
     both (lt-ltb m.count 4294967296 count)
     (both (record_small n m.newest _ behind.0) (record_small n m.stored _ behind.1.0))
 
@@ -150,7 +150,7 @@ part_held =
     (_, (_, (refl, (z, (z, (z, (z, (value, (matrix, tt)))))))))
 
 pub an_outcome : Message
-an_outcome = record { number = 0; kind = 4; member = 0; slot = 0; operation = 0; count = 0; outcome = 1; newest = part; stored = part }
+an_outcome = record { kind = 4; member = 0; slot = 0; operation = 0; count = 0; outcome = 1; newest = part; stored = part }
 
 pub an_outcome_held : (vs : List Val) × Is message_type.the_row an_outcome vs
 unfolding an_outcome
@@ -159,8 +159,8 @@ an_outcome_held =
     let r = part_held.1 in
     let kind = number_of 4 (omega arith) in
     let result = number_of 1 (omega arith) in
-    (_, (_, (refl, (z, (kind, (z, (z, (z, (z, (result, (r, (r, tt))))))))))))
+    (_, (_, (refl, (kind, (z, (z, (z, (z, (result, (r, (r, tt)))))))))))
 
 pub an_outcome_taken : number_written 1 (fields_in an_outcome) (0 ∷ 0 ∷ 0 ∷ 0 ∷ 0 ∷ []) ≡ 0
-unfolding an_outcome fields_in message_of write_number inside fit_given fit_message written_length encode framed field_bytes
+unfolding an_outcome message_of write_number inside fit_given fit_message written_length encode framed field_bytes
 an_outcome_taken = refl

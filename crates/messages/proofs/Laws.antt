@@ -1,7 +1,7 @@
 -- What is said once of messages by value and in bytes.
 use Prim.Native.Nat.{ℕ, ◌+◌, ◌≤◌}
 use mathlib.Core.Path.{◌≡◌, sym, ap, ◌∙◌}
-use mathlib.Core.Bool.{true}
+use mathlib.Core.Bool.{true, false}
 use mathlib.Core.List.{List, ◌++◌}
 use mathlib.Core.Option.{none, some}
 use lib.Dec.{eqb}
@@ -17,8 +17,10 @@ use Rattle.model.specs.RecordWords.{record_words}
 use Rattle.model.specs.Records.{Rec}
 use Rattle.model.specs.Messages.{Message, submit, reply, commit, outcome, kind_of, length_of, record_byte, record_length}
 use Rattle.model.specs.Messages.{record_bytes, encode, fit_message, fit_given, written_length, write_number, written_to}
-use Rattle.laws.proofs.Messages.{heading, by_kind, length-record_bytes, length-encode, writable_of}
-use Rattle.messages.specs.Meaning.{Fields, Fronted, only_records, message_of}
+use Rattle.laws.proofs.Messages.{heading, by_kind, length_of_most, length-record_bytes, length-encode, writable_of, readable}
+use Rattle.laws.proofs.Messages.{from_submit, from_reply, from_commit, from_outcome}
+use Rattle.rules.proofs.Refusals.{refuses}
+use Rattle.messages.specs.Meaning.{Fields, Fronted, message_of}
 
 -- Runs of bytes one after the other, and a list whose front was written.
 
@@ -57,10 +59,6 @@ pub fronted_record : (n : ℕ) (p : List ℕ) (r : Rec) (l t u : List ℕ) (k : 
     → words u ≡ pasted k (record_length n) (record_byte (words (record_words n r))) (words t) → Fronted (p ++ record_bytes n r) l u
 fronted_record n p r l t u k e f h = fronted_more p (record_bytes n r) l t u k e f (h ∙ record_bytes_lem n k r (words t))
 
--- Equal records make equal fields.
-pub same_records : (kind : ℕ) {a b c d : Rec} → a ≡ b → c ≡ d → only_records kind a c ≡ only_records kind b d
-same_records kind p q i = only_records kind (p i) (q i)
-
 -- The message that the writer is handed, by its kind.
 
 module _ (f : Fields) where
@@ -86,6 +84,13 @@ module _ (f : Fields) where
   pub given_none : (f.kind ≡ 1 → ⊥) → (f.kind ≡ 2 → ⊥) → (f.kind ≡ 3 → ⊥) → (f.kind ≡ 4 → ⊥) → message_of f ≡ none
   unfolding message_of
   given_none a b c d = rw (ne_eqb f.kind 1 a, ne_eqb f.kind 2 b, ne_eqb f.kind 3 c, ne_eqb f.kind 4 d)
+
+  pub given_unknown : inside 4 f.kind ≡ false → message_of f ≡ none
+  given_unknown h = given_none
+      (λ e. apart (inside_in 4 f.kind (omega arith) (omega arith)) h)
+      (λ e. apart (inside_in 4 f.kind (omega arith) (omega arith)) h)
+      (λ e. apart (inside_in 4 f.kind (omega arith) (omega arith)) h)
+      (λ e. apart (inside_in 4 f.kind (omega arith) (omega arith)) h)
 
   -- a message that fits has a kind
   pub given_kind : (n : ℕ) → fit_given n (message_of f) ≡ true → inside 4 f.kind ≡ true
@@ -138,3 +143,12 @@ taken n f l h =
           let long = rw (ap (written_length n) e) at w.long in
           replaced_by l t 0 (encode n m) (omega arith) same p ∙ sym (ap (λ m. written_to n m l) e);
     }
+
+-- The laws that the functions are proved by: the message of each kind, and of none; what refuses it; and what is written.
+pub ruleset given = (given_submit, given_reply, given_commit, given_outcome, given_unknown)
+
+pub ruleset judging = (given_unknown, given_kind, given_length, length_of_most, inside_low, inside_high)
+
+pub ruleset reading = (readable, from_submit, from_reply, from_commit, from_outcome)
+
+pub ruleset writing = (taken, length_of_most, refuses)

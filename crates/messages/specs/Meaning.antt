@@ -1,4 +1,4 @@
--- What a message held by value stands for: the struct's fields but its number, which the reader sets and the writer does not look at.
+-- What a message held by value stands for: the struct's fields.
 use Rattle.std.specs.Prelude.{ℕ, ◌≡◌, cond, List, eqb, length}
 use Rattle.std.proofs.Math.Option.{Option, none, some}
 use Rattle.lists.specs.Functions.{pasted}
@@ -18,7 +18,7 @@ pub record Fields : Type 0 where
   pub newest : Rec
   pub stored : Rec
 
-unfoldable pub fields_in : MessageStruct → Fields
+abbrev pub fields_in : MessageStruct → Fields
 fields_in m = record {
   kind = m.kind;
   member = m.member;
@@ -96,7 +96,7 @@ output_after n f out = written_to n (writable n (message_of f) (length out)) out
 -- What the steps inside the reader and the writer leave; no contract of a public call cites these. A struct that no number refuses, and
 -- that holds the message m:
 abbrev pub Holds : MessageStruct → Message → Type 0
-Holds r m = (r.number ≡ 0) × (fields_in r ≡ fields_of (some m))
+Holds r m = fields_in r ≡ fields_of (some m)
 
 -- The bytes p at the front of a list, the others as they were:
 abbrev pub Fronted : List ℕ → List ℕ → List ℕ → Type 0

@@ -1,28 +1,29 @@
 // Messages as bytes: the reader, the writer, and the check that a C gateway calls.
 #![tactic(auto)]
 
-ghost use Rattle.std.specs.Prelude.{◌≡◌};
+ghost use Rattle.std.specs.Prelude.{◌≡◌, IfOk};
 ghost use Rattle.std.proofs.Math.Option.{none};
 ghost use Rattle.model.specs.Messages.{read_number};
+ghost use Rattle.rules.specs.Refusals.{answer};
 ghost use Rattle.messages.specs.Meaning.{fields_in, fields_of, fields_read, number_written, length_written, output_after};
 
-use crate::numbers::writer_number;
+use crate::numbers::check_fields;
 use crate::reader::read_message;
 use crate::writer::write_message;
 use message_bytes::steps::FRAME_LENGTH;
-use message_numbers::reader_number;
+use message_numbers::check_message;
 use message_numbers::steps::length_of;
 use records::Record;
+use rules::Refusal;
 
 mod numbers;
 mod reader;
 mod writer;
 
-// A message by value, and the number that the reader answered. Unused parts are zero; a commit's record stands in `newest`.
+// A message by value. Unused parts are zero; a commit's record stands in `newest`.
 #[derive(Clone, Copy)]
 pub struct Message {
-    pub number: u32,
-    // 1 submit, 2 reply, 3 commit, 4 outcome
+    // 1 submit, 2 reply, 3 commit, 4 outcome; a number and no `MessageKind`, since the writer takes every number, and refuses the others.
     pub kind: u32,
     pub member: u32,
     pub slot: u32,
@@ -35,63 +36,53 @@ pub struct Message {
 }
 
 impl Message {
-    // No message, and the number that refused it: every other part zero.
-    pub fn refused(number: u32) -> Message
-        ensures { (result.number ≡ number) × (fields_in result ≡ fields_of none) }
+    // No message: every part zero.
+    #[tactic(auto, unfolding(crate::specs::Meaning::fields_of))]
+    pub fn none() -> Message
+        ensures { fields_in result ≡ fields_of none }
     {
-        let newest = Record::zero();
-        let stored = Record::zero();
         Message {
-            number,
             kind: 0,
             member: 0,
             slot: 0,
             operation: 0,
             count: 0,
             outcome: 0,
-            newest,
-            stored,
+            newest: Record::zero(),
+            stored: Record::zero(),
         }
     }
 }
 
-// The writer's answer: its number, and how many bytes it wrote.
-#[derive(Clone, Copy)]
-pub struct Written {
-    pub number: u32,
-    pub length: usize,
-}
-
-// The reader: the message in these bytes on a board of n, or the number that refuses it.
-pub fn read(bytes: &[u8], n: u32) -> Message
-    ensures { (result.number ≡ read_number n bytes.now) × (fields_in result ≡ fields_read n bytes.now) }
+// The reader: the message in these bytes on a board of n.
+#[tactic(auto, unfolding(model::specs::Messages::decode))]
+pub fn read(bytes: &[u8], n: u32) -> Result<Message, Refusal>
+    ensures number_value { answer result ≡ read_number n bytes.now }
+    ensures fields_value { IfOk result (λ message. fields_in message ≡ fields_read n bytes.now) }
 {
-    let number = reader_number(bytes, n);
-    if number != 0 {
-        return Message::refused(number);
-    }
-    read_message(bytes, n as usize)
+    let kind = check_message(bytes, n)?;
+    Ok(read_message(kind, bytes, n as usize))
 }
 
-// The writer: the message's bytes to the front of the output, the others left as they were; nothing where a number refuses it.
-pub fn write(message: Message, n: u32, out: &mut [u8]) -> Written
-    ensures number_value { result.number ≡ number_written n (fields_in message) out.old }
-    ensures length_value { result.length ≡ length_written n (fields_in message) out.old }
+// The writer: the message's bytes to the front of the output, the others left as they were, and how many bytes they are; nothing where it
+// is refused.
+#[tactic(auto, using(crate::proofs::Laws::writing), unfolding(model::specs::Messages::writable, model::specs::Messages::written_to))]
+pub fn write(message: Message, n: u32, out: &mut [u8]) -> Result<usize, Refusal>
+    ensures number_value { answer result ≡ number_written n (fields_in message) out.old }
+    ensures length_value { IfOk result (λ length. length ≡ length_written n (fields_in message) out.old) }
     ensures out_after { out.new ≡ output_after n (fields_in message) out.old }
 {
-    let number = writer_number(message, n, out.len());
-    if number != 0 {
-        return Written { number, length: 0 };
-    }
-    let kind = message.kind;
-    let length = FRAME_LENGTH + length_of(kind, n);
-    write_message(out, n, message);
-    Written { number: 0, length }
+    let kind = check_fields(message, n, out.len())?;
+    write_message(kind, message, n, out);
+    Ok(FRAME_LENGTH + length_of(kind, n))
 }
 
 // 0 if the reader would take these bytes on a board of n, or the number that it would refuse them with. For C: include/concur.h.
 pub fn concur_message_check(bytes: &[u8], n: u32) -> u32
     ensures { result ≡ read_number n bytes.now }
 {
-    reader_number(bytes, n)
+    match check_message(bytes, n) {
+        Ok(_) => 0,
+        Err(refusal) => refusal.number(),
+    }
 }

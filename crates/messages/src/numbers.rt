@@ -1,53 +1,47 @@
-// The number that the writer answers.
-ghost use Rattle.std.specs.Prelude.{◌≡◌};
+// What the writer refuses.
+ghost use Rattle.std.specs.Prelude.{◌≡◌, IfOk};
 ghost use Rattle.model.specs.Messages.{fit_given, write_number};
+ghost use Rattle.rules.specs.Refusals.{answer};
+ghost use Rattle.message_numbers.specs.Kinds.{kind_number};
 ghost use Rattle.messages.specs.Meaning.{fields_in, message_of};
 
 use crate::Message;
 use message_bytes::steps::FRAME_LENGTH;
+use message_numbers::MessageKind;
 use message_numbers::steps::length_of;
-use message_numbers::{COMMIT, OUTCOME, REPLY, SUBMIT};
-use rules::{MOST_MEMBERS, is_fit, is_numbered};
+use rules::{MOST_MEMBERS, Refusal, is_fit, is_numbered};
 
-// Is there a message of a kind, with its fields as number 15 wants them?
-fn message_fits(message: Message, n: u32) -> bool
+// Are the fields of a message of this kind as number 15 wants them?
+#[tactic(auto, using(crate::proofs::Laws::given), unfolding(model::specs::Messages::fit_given, model::specs::Messages::fit_message))]
+fn fields_fit(kind: MessageKind, message: Message, n: u32) -> bool
+    requires { kind_number kind ≡ message.kind }
     ensures { result ≡ fit_given n (message_of (fields_in message)) }
 {
-    let kind = message.kind;
-    if kind == SUBMIT {
-        return is_fit(message.member, message.slot, message.operation, n);
+    match kind {
+        MessageKind::Submit => is_fit(message.member, message.slot, message.operation, n),
+        MessageKind::Reply => message.newest.fits(n) && message.stored.fits(n),
+        MessageKind::Commit => message.newest.fits(n),
+        MessageKind::Outcome => is_numbered(message.outcome, 2),
     }
-    if kind == OUTCOME {
-        return is_numbered(message.outcome, 2);
-    }
-    let newest = message.newest;
-    if kind == COMMIT {
-        return is_fit(newest.member, newest.slot, newest.operation, n);
-    }
-    if kind != REPLY {
-        return false;
-    }
-    if !is_fit(newest.member, newest.slot, newest.operation, n) {
-        return false;
-    }
-    let stored = message.stored;
-    is_fit(stored.member, stored.slot, stored.operation, n)
 }
 
-// The writer's number, for an output of `room` bytes.
-pub fn writer_number(message: Message, n: u32, room: usize) -> u32
-    ensures { result ≡ write_number n (message_of (fields_in message)) room }
+// The message's kind, or what refuses it to an output of `room` bytes. A kind that is none counts as a field.
+#[tactic(auto, using(crate::proofs::Laws::judging), unfolding(model::specs::Messages::write_number, model::specs::Messages::fit_given))]
+pub fn check_fields(message: Message, n: u32, room: usize) -> Result<MessageKind, Refusal>
+    ensures number_value { answer result ≡ write_number n (message_of (fields_in message)) room }
+    ensures kind_value { IfOk result (λ kind. kind_number kind ≡ message.kind) }
 {
     if !is_numbered(n, MOST_MEMBERS) {
-        return 1;
+        return Err(Refusal::Size);
     }
-    if !message_fits(message, n) {
-        return 15;
+    let Ok(kind) = MessageKind::try_from(message.kind) else {
+        return Err(Refusal::Field);
+    };
+    if !fields_fit(kind, message, n) {
+        return Err(Refusal::Field);
     }
-    let kind = message.kind;
-    let size = FRAME_LENGTH + length_of(kind, n);
-    if room < size {
-        return 16;
+    if room < FRAME_LENGTH + length_of(kind, n) {
+        return Err(Refusal::Room);
     }
-    0
+    Ok(kind)
 }

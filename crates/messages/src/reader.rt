@@ -2,84 +2,79 @@
 ghost use Rattle.std.specs.Prelude.{◌≡◌, ◌+◌, ◌≤◌, length};
 ghost use Rattle.lists.specs.Functions.{from};
 ghost use Rattle.lists.specs.Parts.{words};
-ghost use Rattle.model.specs.Messages.{submit, reply, commit, frame_length, record_length, submit_length, fields_at, record_at, number_of};
-ghost use Rattle.model.specs.Messages.{record_from, message_from, read_number};
+ghost use Rattle.model.specs.Messages.{submit, reply, commit, outcome, frame_length, record_length, submit_length, outcome_length};
+ghost use Rattle.model.specs.Messages.{fields_at, record_at, number_of, record_from, message_from, read_number};
+ghost use Rattle.message_numbers.specs.Kinds.{kind_number};
 ghost use Rattle.messages.specs.Meaning.{Holds};
 
 use crate::Message;
 use message_bytes::steps::{FIELDS_AT, RECORD_AT, read_number, read_record, second_at, wide};
-use message_numbers::{COMMIT, OUTCOME, REPLY, SUBMIT};
-use records::Record;
+use message_numbers::MessageKind;
 
+#[tactic(auto, unfolding(crate::specs::Meaning::fields_of))]
 fn read_submit(s: &[u8]) -> Message
     requires { frame_length + submit_length ≤ length s.now }
     ensures { let b = words s.now in
         Holds result (submit (b fields_at) (b (fields_at + 1)) (b (fields_at + 2)) (number_of (from b (fields_at + 3)))) }
 {
-    let mut m = Message::refused(0);
-    m.kind = SUBMIT;
-    m.member = wide(s[FIELDS_AT]);
-    m.slot = wide(s[FIELDS_AT + 1]);
-    m.operation = wide(s[FIELDS_AT + 2]);
-    m.count = read_number(s, FIELDS_AT + 3);
-    m
+    Message {
+        kind: MessageKind::Submit as u32,
+        member: wide(s[FIELDS_AT]),
+        slot: wide(s[FIELDS_AT + 1]),
+        operation: wide(s[FIELDS_AT + 2]),
+        count: read_number(s, FIELDS_AT + 3),
+        ..Message::none()
+    }
 }
 
+#[tactic(auto, unfolding(crate::specs::Meaning::fields_of))]
 fn read_reply(s: &[u8], n: usize) -> Message
     requires { (n ≤ 12) × (record_at + record_length n + record_length n ≤ length s.now) }
     ensures { let b = words s.now in
         Holds result (reply (record_from n (from b record_at)) (record_from n (from b (record_at + record_length n)))) }
 {
-    let newest = read_record(s, RECORD_AT, n);
-    let stored = read_record(s, second_at(n), n);
     Message {
-        number: 0,
-        kind: REPLY,
-        member: 0,
-        slot: 0,
-        operation: 0,
-        count: 0,
-        outcome: 0,
-        newest,
-        stored,
+        kind: MessageKind::Reply as u32,
+        newest: read_record(s, RECORD_AT, n),
+        stored: read_record(s, second_at(n), n),
+        ..Message::none()
     }
 }
 
+#[tactic(auto, unfolding(crate::specs::Meaning::fields_of))]
 fn read_commit(s: &[u8], n: usize) -> Message
     requires { (n ≤ 12) × (record_at + record_length n ≤ length s.now) }
     ensures { Holds result (commit (record_from n (from (words s.now) record_at))) }
 {
-    let newest = read_record(s, RECORD_AT, n);
-    let stored = Record::zero();
+    let record = read_record(s, RECORD_AT, n);
     Message {
-        number: 0,
-        kind: COMMIT,
-        member: 0,
-        slot: 0,
-        operation: 0,
-        count: 0,
-        outcome: 0,
-        newest,
-        stored,
+        kind: MessageKind::Commit as u32,
+        newest: record,
+        ..Message::none()
     }
 }
 
-pub fn read_message(s: &[u8], n: usize) -> Message
-    requires { read_number n s.now ≡ 0 }
+#[tactic(auto, unfolding(crate::specs::Meaning::fields_of))]
+fn read_outcome(s: &[u8]) -> Message
+    requires { frame_length + outcome_length ≤ length s.now }
+    ensures { Holds result (outcome (words s.now fields_at)) }
+{
+    Message {
+        kind: MessageKind::Outcome as u32,
+        outcome: wide(s[FIELDS_AT]),
+        ..Message::none()
+    }
+}
+
+#[tactic(auto, using(crate::proofs::Laws::reading), unfolding(model::specs::Messages::length_of, model::specs::Messages::record_length))]
+pub fn read_message(kind: MessageKind, s: &[u8], n: usize) -> Message
+    requires { (read_number n s.now ≡ 0) × (kind_number kind ≡ words s.now 3) }
     ensures { Holds result (message_from n (words s.now)) }
 {
-    let kind = wide(s[3]);
-    if kind == SUBMIT {
-        return read_submit(s);
+    match kind {
+        MessageKind::Submit => read_submit(s),
+        MessageKind::Reply => read_reply(s, n),
+        MessageKind::Commit => read_commit(s, n),
+        MessageKind::Outcome => read_outcome(s),
     }
-    if kind == REPLY {
-        return read_reply(s, n);
-    }
-    if kind == COMMIT {
-        return read_commit(s, n);
-    }
-    let mut m = Message::refused(0);
-    m.kind = OUTCOME;
-    m.outcome = wide(s[FIELDS_AT]);
-    m
 }

@@ -1,18 +1,18 @@
 // What the programs that ask about one operation read: the member and the ordinal as arguments, and a script from standard input.
 #![tactic(auto)]
 
-ghost use Rattle.std.specs.Prelude.{◌≡◌, true, false, ◌≤◌, length};
+ghost use Rattle.std.specs.Prelude.{◌≡◌, false, ◌≤◌, length, Ok, IfOk};
 ghost use Rattle.tool_input.specs.Meaning.{Held};
 
 use overtaker::Asked;
 use std::env::{Env, FillError};
 use std::io;
-use streams::{Input, read_all};
+use streams::{Reported, read_all};
 
 // Longer than any number: an argument that does not fit is none.
 const LONGEST_ARGUMENT: usize = 16;
 
-// How many arguments there are behind the program's own name.
+// How many arguments there are behind the program's own name. They are asked for one by one: `env::args` keeps them on the heap.
 fn argument_count(rt: &impl Env) -> usize {
     let mut last = [0u8; LONGEST_ARGUMENT];
     for i in 1..usize::MAX {
@@ -41,16 +41,17 @@ pub fn read_arguments(rt: &impl Env) -> Asked
     Asked::read(argument_count(rt), &first[..a], &second[..b])
 }
 
-// The script. Nothing is read where the arguments ask for no operation.
-pub fn read_script(rt: &(impl io::Input + Eprint), asked: Asked, input: &mut [u8]) -> Input
-    ensures length_in_bounds { result.length ≤ length input.new }
-    ensures ok_value { asked.ok ≡ false → (result.ok ≡ true) × ((result.length ≡ 0) × (input.new ≡ input.old)) }
+// The script, and how many bytes it is. Nothing is read where the arguments ask for no operation.
+pub fn read_script(
+    rt: &(impl io::Input + Eprint),
+    asked: Asked,
+    input: &mut [u8],
+) -> Result<usize, Reported>
+    ensures length_in_bounds { IfOk result (λ got. got ≤ length input.new) }
+    ensures ok_value { asked.ok ≡ false → (result ≡ Ok 0) × (input.new ≡ input.old) }
 {
     if !asked.ok {
-        return Input {
-            ok: true,
-            length: 0,
-        };
+        return Ok(0);
     }
     read_all(rt, input)
 }

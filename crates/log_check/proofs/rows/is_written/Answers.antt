@@ -10,4 +10,4 @@ returns-then-log-value c =
     failing (value_apart _ _ _ c.loop-i.i (omega arith) (λ e. c.if-log-value.true (e ∙ sym c.written_word.ensures)))
 
 pub returns : goal.returns
-returns c = holding (value_written _ _ _ (λ j h. c.loop-i.invariant.1 j (omega arith)))
+returns c = holding (value_written _ _ _ (λ j h. c.loop-i.invariant j (omega arith)))

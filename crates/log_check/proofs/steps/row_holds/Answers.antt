@@ -74,11 +74,12 @@ overflow_sub-bar c = omega (arith, (member_in (goal.at.overflow_sub-bar c).Else-
 pub bounds-until-member : goal.bounds-until-member
 bounds-until-member c = let m = member_in (goal.at.bounds-until-member c).Else-not-fields_hold in omega (arith, m.least, m.most)
 
-pub returns-then-not-positions_hold : goal.returns-then-not-positions_hold
-returns-then-not-positions_hold c =
+pub returns-else-positions_hold : goal.returns-else-positions_hold
+returns-else-positions_hold c =
     let w = words c.args.log.now in
-    let tested = turn (goal.at.returns-then-not-positions_hold c).After-positions_hold in
-    failing (λ h. apart (turn_of c.args.n (row w c.args.k) (rows_of w c.args.k) h) (refused tested c.if-not-positions_hold.true-raw))
+    let tested = turn (goal.at.returns-else-positions_hold c).After-positions_hold in
+    rw c.if-positions_hold.false
+    (failing (λ h. apart (turn_of c.args.n (row w c.args.k) (rows_of w c.args.k) h) (sym tested ∙ c.if-positions_hold.false)))
 
 pub overflow_sub-before : goal.overflow_sub-before
 overflow_sub-before c = omega (arith, (slot_in (goal.at.overflow_sub-before c).Else-not-fields_hold).least)
@@ -93,18 +94,18 @@ read_holds-requires c =
     let place = place_read (words c.args.log.now) c.args.k c.requires.remembers slot in
     (omega arith, omega arith)
 
-pub returns : goal.returns
+pub returns-then-positions_hold : goal.returns-then-positions_hold
 unfolding row_of from
-returns c =
+returns-then-positions_hold c =
     let w = words c.args.log.now in
     let k = c.args.k in
-    let e = (goal.at.returns c).Else-not-fields_hold in
+    let e = (goal.at.returns-then-positions_hold c).Else-not-fields_hold in
     let own = row_value w k in
     let last = value_read w k c.requires.remembers (slot_in e) in
     let small : words c.args.log.now (k * row_size + 11) ≤ never = omega (arith, c.type_inv.log (k * 14 + 11)) in
     said
     (λ reads. row-holds c.args.n (row w k) (rows_of w k) (fit e) small
-    (allowed (turn (goal.at.returns c).After-positions_hold) c.if-not-positions_hold.false-raw)
+    (sym (turn (goal.at.returns-then-positions_hold c).After-positions_hold) ∙ c.if-positions_hold.true)
     (λ r h. sym own ∙ reads r h ∙ last))
     (λ h r ended. own ∙ h.reads r ended ∙ sym last)
     c.read_holds.ensures

@@ -29,7 +29,7 @@ slot_in c = widened c.args.n _ c.requires (holds c).slot
 
 pub loop-k-init : goal.loop-k-init
 unfolding rows_of
-loop-k-init c = record { passed = omega arith; holds = tt; remembers = remembers_none (words c.args.log.now) }
+loop-k-init c = record { holds = tt; remembers = remembers_none (words c.args.log.now) }
 
 pub returns-then-not-row_holds : goal.returns-then-not-row_holds
 unfolding log_of
@@ -62,7 +62,6 @@ loop-k-preserved c =
     let at = (goal.at.loop-k-preserved c).Else-not-row_holds in
     let i = c.loop-k.invariant in
     record {
-      passed = omega arith;
       holds = row_more c.args.n w c.loop-k.k (holds at) i.holds;
       remembers =
           remembers-more w c.loop-k.k i.remembers (member_in at) (slot_in at) c.barred_until.ensures c.written_after.ensures;

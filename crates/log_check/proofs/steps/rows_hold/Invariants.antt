@@ -1,5 +1,4 @@
 -- The rows passed hold, and what is remembered is of them.
-use Prim.Native.Nat.{◌-◌, ◌≤◌}
 use Rattle.lists.specs.Parts.{words}
 use Rattle.logs.specs.Log.{rows_of, LogHolds}
 use Rattle.log_check.specs.Remembered.{Remembers}
@@ -7,10 +6,6 @@ use Rattle.log_check.proofs.steps.rows_hold.Given as goal
 
 abbrev pub invariant-loop-k : goal.invariant-loop-k
 invariant-loop-k l = record {
-  passed : l.k ≤ l.count;
   holds : LogHolds l.n (rows_of (words l.log) l.k);
   remembers : Remembers (words l.log) l.k l.last l.until l.written;
 }
-
-abbrev pub decreases-loop-k : goal.decreases-loop-k
-decreases-loop-k l = l.count - l.k
