@@ -29,25 +29,18 @@ fn run(
 ) -> Result<(), Reported>
     requires { (length table.old ≡ most_words) × ((length kept.old ≡ most_kept) × (longest_bill ≤ length out.old)) }
 {
-    let accounts = Accounts::start();
     let mut counted = Counted {
         progress: Progress::START,
-        accounts,
+        accounts: Accounts::start(),
     };
     'pieces: for _ in 0..u64::MAX {
         let got = read_some(rt, input)?;
-        counted = feed(
-            table,
-            kept,
-            counted.progress,
-            counted.accounts,
-            &input[..got],
-        );
+        counted = feed(table, kept, counted, &input[..got]);
         if is_done(got, counted.progress) {
             break 'pieces;
         }
     }
-    let last = finish(table, kept, counted.progress, counted.accounts, out);
+    let last = finish(table, kept, counted, out);
     write_out(rt, &out[..last])
 }
 

@@ -6,7 +6,7 @@ use Rattle.concur_bill.proofs.run.Goals as goal
 pub pieces-init : goal.pieces-init
 pieces-init g c =
     let a = c.args in
-    let s = c.start-accounts in
+    let s = c.start in
     record {
       going = start_going s.result a.table.now a.kept.now s.ensures c.requires.0 c.requires.1.0;
       table-long = refl;

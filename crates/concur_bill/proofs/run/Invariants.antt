@@ -7,7 +7,7 @@ use Rattle.concur_bill.proofs.run.Given as goal
 
 -- what each turn leaves
 pub record Left (table kept input out : List ℕ) (c : Counted) (table' kept' input' : List ℕ) : Type 0 where
-  pub going : Going c.progress c.accounts table' kept'
+  pub going : Going c table' kept'
   pub table-long : length table' ≡ length table
   pub kept-long : length kept' ≡ length kept
   pub input-long : length input' ≡ length input
