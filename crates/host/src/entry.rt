@@ -73,16 +73,11 @@ pub fn commit_entry(entry: &mut [u32], n: usize, committed: Record) -> bool
 }
 
 // The check of the entry.
+#[tactic(auto, unfolding(model::specs::Table::sound_entry, model::specs::Table::entry_of, model::specs::Table::stored_of))]
 pub fn sound_entry(entry: &[u32], n: u32) -> bool
     requires { OneEntry n entry.now }
     ensures { result ≡ sound_entry n (entry_in n entry.now) (entry_stored_in n entry.now) }
 {
     let at = newest_at(n as usize);
-    if n < entry[SUBMIT_MEMBER_AT] {
-        return false;
-    }
-    if !sound_record(entry, STORED_AT, n) {
-        return false;
-    }
-    sound_record(entry, at, n)
+    entry[SUBMIT_MEMBER_AT] <= n && sound_record(entry, STORED_AT, n) && sound_record(entry, at, n)
 }
