@@ -1,4 +1,5 @@
-// The member half's four calls and its auction begin, on a block, and the host half's two, on the host entries.
+// The member half's four calls and its auction begin, on a block, and the host half's two, on the host entries. Numbers and slices stand
+// for refusals, records and what is returned, and each kind of board has a begin of its own: this is a C interface, of calls by name.
 ghost use Rattle.std.specs.Prelude.{◌≡◌, [], ◌∷◌};
 ghost use Rattle.lists.specs.Parts.{words};
 ghost use Rattle.model.specs.Kinds.{concur, auction};
@@ -15,8 +16,11 @@ use crate::words::{BOTH_WORDS, RECORD_WORDS, VALUE_WORDS, load_at, store_both};
 use board::steps::hand_out;
 use host::{take_commit, take_submit};
 use member::{auction, begin, crash, take_outcome, take_reply};
+use records::Record;
 use records::steps::load_value;
+use rules::{Refusal, answered};
 
+#[tactic(auto, using(lists::proofs::Functions::from_zero), unfolding(crate::specs::Beside::beside))]
 #[unsafe(no_mangle)]
 pub extern "C" fn concur_call_member_begin(
     block: &mut [u32],
@@ -34,12 +38,13 @@ pub extern "C" fn concur_call_member_begin(
         (member_begin_words concur n member block.old slot operation (value_of (words value.now))) }
 {
     if value.len() != VALUE_WORDS {
-        return 2;
+        return Refusal::Length.number();
     }
     let given = load_value(value, 0);
-    begin(block, n, member, slot, operation, given)
+    answered(begin(block, n, member, slot, operation, given))
 }
 
+#[tactic(auto, using(lists::proofs::Functions::from_zero), unfolding(crate::specs::Beside::beside))]
 #[unsafe(no_mangle)]
 pub extern "C" fn concur_call_member_auction_begin(
     block: &mut [u32],
@@ -57,12 +62,13 @@ pub extern "C" fn concur_call_member_auction_begin(
         (member_begin_words auction n member block.old slot operation (value_of (words value.now))) }
 {
     if value.len() != VALUE_WORDS {
-        return 2;
+        return Refusal::Length.number();
     }
     let given = load_value(value, 0);
-    auction::begin(block, n, member, slot, operation, given)
+    answered(auction::begin(block, n, member, slot, operation, given))
 }
 
+#[tactic(auto, unfolding(crate::specs::Beside::beside, crate::specs::Beside::beside_two, crate::specs::Handed::record_given))]
 #[unsafe(no_mangle)]
 pub extern "C" fn concur_call_member_reply(
     block: &mut [u32],
@@ -86,18 +92,26 @@ pub extern "C" fn concur_call_member_reply(
         (record_given n records.now 0) (record_given n records.now record_due) seals ∷ []) }
 {
     if records.len() != BOTH_WORDS {
-        return 2;
+        return Refusal::Length.number();
     }
     if pairs.len() != 1 {
-        return 2;
+        return Refusal::Length.number();
     }
     let newest = load_at(records, 0);
     let stored = load_at(records, RECORD_WORDS);
-    let taken = take_reply(block, n, member, newest, stored, seals);
-    pairs[0] = taken.pairs;
-    taken.number
+    match take_reply(block, n, member, newest, stored, seals) {
+        Ok(compared) => {
+            pairs[0] = compared;
+            0
+        }
+        Err(refusal) => {
+            pairs[0] = 0;
+            refusal.number()
+        }
+    }
 }
 
+#[tactic(auto, unfolding(crate::specs::Beside::beside))]
 #[unsafe(no_mangle)]
 pub extern "C" fn concur_call_member_outcome(
     block: &mut [u32],
@@ -117,13 +131,18 @@ pub extern "C" fn concur_call_member_outcome(
         (returned_words (outcome_returns n member block.old outcome)) }
 {
     if returned.len() != 9 {
-        return 2;
+        return Refusal::Length.number();
     }
-    let done = take_outcome(block, n, member, outcome);
-    let given = done.returned;
-    let value = done.value;
-    hand_out(returned, given, value);
-    done.number
+    match take_outcome(block, n, member, outcome) {
+        Ok(value) => {
+            hand_out(returned, value);
+            0
+        }
+        Err(refusal) => {
+            hand_out(returned, None);
+            refusal.number()
+        }
+    }
 }
 
 #[unsafe(no_mangle)]
@@ -131,9 +150,10 @@ pub extern "C" fn concur_call_member_crash(block: &mut [u32], n: u32, member: u3
     ensures value { result ≡ member_crash_number n member block.old }
     ensures block_after { block.new ≡ member_crash_words n member block.old }
 {
-    crash(block, n, member)
+    answered(crash(block, n, member))
 }
 
+#[tactic(auto, unfolding(crate::specs::Beside::beside, crate::specs::Handed::replied_words))]
 #[unsafe(no_mangle)]
 pub extern "C" fn concur_call_host_submit(
     entries: &mut [u32],
@@ -155,13 +175,21 @@ pub extern "C" fn concur_call_host_submit(
         (replied_words n entries.old member slot operation) }
 {
     if records.len() != BOTH_WORDS {
-        return 2;
+        return Refusal::Length.number();
     }
-    let reply = take_submit(entries, n, member, slot, operation, count);
-    store_both(records, 0, reply.newest, reply.stored);
-    reply.number
+    match take_submit(entries, n, member, slot, operation, count) {
+        Ok(reply) => {
+            store_both(records, 0, reply.newest, reply.stored);
+            0
+        }
+        Err(refusal) => {
+            store_both(records, 0, Record::zero(), Record::zero());
+            refusal.number()
+        }
+    }
 }
 
+#[tactic(auto, unfolding(crate::specs::Beside::beside, crate::specs::Beside::beside_two, crate::specs::Handed::record_given))]
 #[unsafe(no_mangle)]
 pub extern "C" fn concur_call_host_commit(
     entries: &mut [u32],
@@ -180,13 +208,20 @@ pub extern "C" fn concur_call_host_commit(
         (commit_outcome n entries.old (record_given n committed.now 0) ∷ []) }
 {
     if committed.len() != RECORD_WORDS {
-        return 2;
+        return Refusal::Length.number();
     }
     if outcome.len() != 1 {
-        return 2;
+        return Refusal::Length.number();
     }
     let record = load_at(committed, 0);
-    let verdict = take_commit(entries, n, record);
-    outcome[0] = verdict.outcome;
-    verdict.number
+    match take_commit(entries, n, record) {
+        Ok(verdict) => {
+            outcome[0] = verdict.number();
+            0
+        }
+        Err(refusal) => {
+            outcome[0] = 0;
+            refusal.number()
+        }
+    }
 }

@@ -4,19 +4,22 @@ ghost use Rattle.model.specs.Messages.{decode, write_number, writable, written_t
 ghost use Rattle.messages.specs.Meaning.{fields_of, message_of};
 ghost use Rattle.test_calls.specs.Counts.{both_counts};
 
-use messages::{read, write};
+use messages::{Message, read, write};
 
 // Reads a message, and answers the counts of its two records, added up in 32 bits.
 #[unsafe(no_mangle)]
 pub extern "C" fn concur_bench_read(bytes: &[u8], n: u32) -> u32
     ensures { result ≡ both_counts (fields_of (decode n bytes.now)) }
 {
-    let message = read(bytes, n);
-    std::num::wrapping_add_u32(message.newest.count, message.stored.count)
+    match read(bytes, n) {
+        Ok(message) => message.newest.count.wrapping_add(message.stored.count),
+        Err(_) => 0,
+    }
 }
 
 // Reads a message and writes it again, so many times more, each time over what it wrote. One that the reader refuses is none, and is
 // refused by the writer.
+#[tactic(auto, unfolding(model::specs::Messages::decode))]
 #[unsafe(no_mangle)]
 pub extern "C" fn concur_bench_write(bytes: &[u8], n: u32, out: &mut [u8], more: u32) -> u32
     ensures value { result ≡ write_number n (message_of (fields_of (decode n bytes.now))) (length out.old) }
@@ -24,12 +27,13 @@ pub extern "C" fn concur_bench_write(bytes: &[u8], n: u32, out: &mut [u8], more:
         ≡ written_to n (writable n (message_of (fields_of (decode n bytes.now))) (length out.old))
         out.old }
 {
-    let message = read(bytes, n);
+    let message = read(bytes, n).unwrap_or(Message::none());
     let written = write(message, n, out);
-    let mut i = 0;
-    while i < more {
-        write(message, n, out);
-        i += 1;
+    for _ in 0..more {
+        let _ = write(message, n, out);
     }
-    written.number
+    match written {
+        Ok(_) => 0,
+        Err(refusal) => refusal.number(),
+    }
 }

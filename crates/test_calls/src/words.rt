@@ -23,6 +23,7 @@ const NEWEST_AT: usize = 6;
 const STORED_AT: usize = 162;
 
 // The record in the words from `at` on.
+#[tactic(auto, unfolding(crate::specs::Handed::record_from, model::specs::RecordWords::record_size))]
 pub fn load_at(t: &[u32], at: usize) -> Record
     requires { at + record_due ≤ length t.now }
     ensures { record_in result ≡ record_from t.now at }
@@ -31,6 +32,7 @@ pub fn load_at(t: &[u32], at: usize) -> Record
 }
 
 // The newest and the stored record to the words from `at` on, which are the last ones.
+#[tactic(auto, unfolding(model::specs::RecordWords::record_size))]
 pub fn store_both(t: &mut [u32], at: usize, newest: Record, stored: Record)
     requires { length t.old ≡ at + both_due }
     ensures { t.new ≡ take at t.old ++ both_words (record_in newest) (record_in stored) }
@@ -40,6 +42,7 @@ pub fn store_both(t: &mut [u32], at: usize, newest: Record, stored: Record)
 }
 
 // The message that the fields say.
+#[tactic(auto, unfolding(crate::specs::Handed::fields_from))]
 pub fn load_fields(t: &[u32]) -> Message
     requires { length t.now ≡ fields_due }
     ensures { fields_in result ≡ fields_from t.now }
@@ -47,7 +50,6 @@ pub fn load_fields(t: &[u32]) -> Message
     let newest = load_at(t, NEWEST_AT);
     let stored = load_at(t, STORED_AT);
     Message {
-        number: 0,
         kind: t[0],
         member: t[1],
         slot: t[2],

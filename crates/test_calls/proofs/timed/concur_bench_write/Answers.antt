@@ -22,10 +22,8 @@ again n m s t u v l e f g =
     ∙ twice n w s
     ∙ sym e
 
--- Places: the round's writing, the loop's head, and what came before the loop.
-
-pub loop-i-preserved : goal.loop-i-preserved
-loop-i-preserved c =
+pub loop-preserved : goal.loop-preserved
+loop-preserved c =
     let a = c.args in
-    again a.n (message_of (fields_in c.read-message.result)) a.out.now _ _ _
-    c.write-written.auto.out c.write-written.ensures.out_after c.loop-i.invariant c.write.ensures.out_after
+    again a.n (message_of (fields_in c.unwrap_or-message.result)) a.out.now _ _ _
+    c.write-written.auto.out c.write-written.ensures.out_after c.loop.invariant c.write.ensures.out_after

@@ -1,8 +1,6 @@
-use Rattle.std.proofs.Common.{◌≡◌, ◌-◌}
+-- The loop's invariant: each round leaves what the first writing left.
+use Rattle.std.proofs.Common.{◌≡◌}
 use Rattle.test_calls.proofs.timed.concur_bench_write.Given as goal
 
-abbrev pub invariant-loop-i : goal.invariant-loop-i
-invariant-loop-i l = l.out ≡ l.initial.out
-
-abbrev pub decreases-loop-i : goal.decreases-loop-i
-decreases-loop-i l = l.more - l.i
+abbrev pub invariant-loop : goal.invariant-loop
+invariant-loop l = l.out ≡ l.initial.out

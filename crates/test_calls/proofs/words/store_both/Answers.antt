@@ -1,19 +1,11 @@
 -- `store_both` meets its contract: two records stored one after the other, to the slice's end.
-use Rattle.std.proofs.Common.{◌+◌, ap, ◌∙◌, arith}
+use Rattle.std.proofs.Common.{◌+◌, ap, ◌∙◌}
 use Rattle.lists.specs.Parts.{replaced}
-use Rattle.model.specs.RecordWords.{record_size, record_words}
+use Rattle.model.specs.RecordWords.{record_words}
 use Rattle.records.specs.Meaning.{record_in}
 use Rattle.test_calls.specs.Handed.{record_due}
 use Rattle.test_calls.proofs.Laws.{both_stored}
 use Rattle.test_calls.proofs.words.store_both.Goals as goal
-
-pub store_record-requires : goal.store_record-requires
-unfolding record_size
-store_record-requires c = (omega arith, omega arith)
-
-pub store_record-requires-2 : goal.store_record-requires-2
-unfolding record_size
-store_record-requires-2 c = (omega arith, omega (arith, c.store_record.auto.t))
 
 pub returns : goal.returns
 returns c =
