@@ -9,28 +9,26 @@ fn row(a: u32, b: u32) -> Row {
     Row::ZERO.with(1, a).with(2, b)
 }
 
-fn print_answer(rt: &impl Print, c: Comparison) -> io::Result<()> {
+// The words are this program's own: the library prints nothing.
+fn word(c: Comparison) -> &'static str {
     match c {
-        Comparison::Equal => print!(rt; "equal"),
-        Comparison::Below => print!(rt; "below"),
-        Comparison::Above => print!(rt; "above"),
-        Comparison::Crossed => print!(rt; "crossed"),
+        Comparison::Equal => "equal",
+        Comparison::Below => "below",
+        Comparison::Above => "above",
+        Comparison::Crossed => "crossed",
     }
-}
-
-fn print_number(rt: &impl Print, a: u32) -> io::Result<()> {
-    print!(rt; " {a}")
 }
 
 fn compare(rt: &impl Print, a: Row, b: Row, n: usize) -> io::Result<()> {
     let compared = a.compare(b, n);
-    let answer = compared.answer;
-    let larger = a.larger(b, n);
-    print_answer(rt, answer)?;
-    print_number(rt, compared.pairs)?;
-    print_number(rt, larger.counts[0])?;
-    print_number(rt, larger.counts[1])?;
-    println!(rt; "")
+    let larger = a.larger(b, n).counts;
+    println!(rt;
+        "{} {} {} {}",
+        word(compared.answer),
+        compared.pairs,
+        larger[0],
+        larger[1]
+    )
 }
 
 // The four answers; counts that a sign would turn round.
