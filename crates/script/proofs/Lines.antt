@@ -259,7 +259,8 @@ found_none b l e = on (ltb (length (before b l)) (length l))
     (λ p. let z : Some (length (before b l)) ≡ None = (rw (sym (before_length b l), p) at e) in cc)
     (λ p. let z = ltb-false (length (before b l)) (length l) p in rw (← drop-beyond, length-drop) (omega arith))
 
-pub found_at : (b : ℕ) (l : List ℕ) (i : ℕ) → position (λ x. eqb x b) l ≡ Some i → (i < length l) × ((take i l ≡ before b l) × (drop (i + 1) l ≡ beyond b l))
+pub found_at : (b : ℕ) (l : List ℕ) (i : ℕ) → position (λ x. eqb x b) l ≡ Some i
+    → (i < length l) × ((take i l ≡ before b l) × (drop (i + 1) l ≡ beyond b l))
 found_at b l i e = on (ltb (length (before b l)) (length l))
     (λ p. let z : Some (length (before b l)) ≡ Some i = (rw (sym (before_length b l), p) at e) in
     let z : length (before b l) ≡ i = cc in

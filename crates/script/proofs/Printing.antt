@@ -11,12 +11,12 @@ use Rattle.lists.specs.Parts.{words, replaced}
 use Rattle.lists.proofs.Functions.{pasted_same}
 use Rattle.lists.proofs.Functions.{pasted_join}
 use Rattle.lists.proofs.Parts.{length-replaced, words_replaced, replaced_by}
-use Rattle.model.specs.Script.{digits, or_dash, field, printed_line, board_line, refused_line}
+use Rattle.model.specs.Script.{or_dash, field, printed_line, board_line, refused_line}
 use Rattle.std.specs.Prelude.{Option, Some, None}
 use Rattle.std.specs.Option.{IfSome}
 use Rattle.std.proofs.Math.Option.{some}
 use Rattle.script.specs.Meaning.{longest_printed, given, Printed}
-use Rattle.script.proofs.Digits.{length_some, length-ten}
+use Rattle.script.proofs.Digits.{length-ten}
 
 -- one byte
 pub set-replaced : (l : List ℕ) (a v : ℕ) → a < length l → set l a v ≡ replaced l a (v ∷ [])
@@ -68,12 +68,7 @@ module _ {l m : List ℕ} {a : ℕ} {p : List ℕ} {r : ℕ} (one : Printed l m 
         ∙ replaced_append l a p q fits;
   }
 
--- How long a field is at least, and a printed line at most.
-
-pub field_long : (x : Option ℕ) (end : ℕ) → 2 ≤ length (field (given x) end)
-unfolding or_dash
-field_long None end = omega arith
-field_long (Some x) end = omega (arith, length-append (digits x) (end ∷ []), length_some x)
+-- How long a field and a line are at most.
 
 dash_short : (x : Option ℕ) → IfSome x (λ v. v < 4294967296) → length (or_dash (given x)) ≤ 10
 unfolding or_dash

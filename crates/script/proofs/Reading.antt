@@ -1,4 +1,4 @@
--- Laws of reading: words, the first byte of some value, numbers.
+-- Laws of reading: words and numbers, and what the code holds of them.
 use Prim.Native.Nat.{ℕ, zero, suc, ◌+◌, ◌-◌, ◌*◌, ◌^◌, ◌≤◌, ◌<◌}
 use native.Mathlib.Nat.{pow-suc, pow-succ', pow-le-pow_right, mul-le-mul_right, mul_assoc, le_refl}
 use native.Mathlib.Numerals.{add-one}
@@ -33,7 +33,9 @@ pub starts_front : (word l : List ℕ) → pointwise eqb (take (length word) l) 
 unfolding starts_with
 starts_front [] l = refl
 starts_front (a ∷ word) [] = refl
-starts_front (a ∷ word) (b ∷ l) = ap (λ t. t && pointwise eqb (take (length word) l) word) (eqb_swap b a) ∙ ap (λ t. eqb a b && t) (starts_front word l)
+starts_front (a ∷ word) (b ∷ l) =
+    ap (λ t. t && pointwise eqb (take (length word) l) word) (eqb_swap b a)
+    ∙ ap (λ t. eqb a b && t) (starts_front word l)
 
 -- Digits.
 

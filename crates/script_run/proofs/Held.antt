@@ -97,7 +97,8 @@ silent_returns l call h = on (eqb (table_answer concur l call) 0) (λ p. rw p (h
 pub call_plain : (l : List ℕ) (call made : Call) → call ≡ made → ((b : Board) → done_returns b made ≡ none)
     → (r : Outcome) (answer : ℕ) (after : List ℕ) → outcome_number r ≡ answer → outcome_value r ≡ none
     → answer ≡ table_answer concur l made → after ≡ table_after concur l made
-    → (outcome_number r ≡ table_answer concur l call) × ((outcome_value r ≡ table_returns concur l call) × (after ≡ table_after concur l call))
+    → (outcome_number r ≡ table_answer concur l call) ×
+    ((outcome_value r ≡ table_returns concur l call) × (after ≡ table_after concur l call))
 call_plain l call made e h r answer after p q a t = rw e
     (p ∙ a, (q ∙ sym (silent_returns l made h), t))
 
@@ -158,7 +159,8 @@ module _ (e : EventSeen) (l : List Event) (h : EventsHeld (Some e) l) where
   unfolding printed_events
   one_shown = rw (h.1, append-nil)
 
-pub refused_shown : (refusal : Refusal) (l : List Event) → EventsHeld (Some (Refused refusal)) l → printed_events l ≡ refused_line (number refusal)
+pub refused_shown : (refusal : Refusal) (l : List Event) → EventsHeld (Some (Refused refusal)) l
+    → printed_events l ≡ refused_line (number refusal)
 unfolding printed_event
 refused_shown refusal l h = one_shown (Refused refusal) l h ∙ rw h.2
 

@@ -17,8 +17,8 @@ use Rattle.script.specs.Meaning.{line_member, Printed}
 use Rattle.script.specs.declared.Line.{Line as LineRead}
 use Rattle.script.specs.declared.Line.TheVariants.{Write, Read, Deliver, Crash}
 use Rattle.tables.specs.Needs.{Table}
-use Rattle.script_run.specs.Feeding.{State, Event, refuses, opens, steps, Fed, most_kept, over_step, over, ended, first_run, fed, last_events}
-use Rattle.script_run.specs.Feeding.{printed_events}
+use Rattle.script_run.specs.Feeding.{State, Event, refuses, opens, steps, Fed, most_kept, over_step, over, ended}
+use Rattle.script_run.specs.Feeding.{first_run, fed, last_events, printed_events}
 use Rattle.script_run.specs.declared.Progress.{Progress}
 use Rattle.script_run.specs.declared.Done.{Done}
 use Rattle.script_run.specs.declared.Event.{Event as EventSeen}

@@ -29,7 +29,7 @@ pub fn make_call(table: &mut [u32], line: Line) -> Outcome
     }
 }
 
-// A member's phase, and 0 where there is no such member.
+// A member's phase, and 0 where there is no such member: a number, as `phase_words` has it, which the line printed shows.
 pub fn phase_of(table: &[u32], member: u32) -> u32
     requires { Whole table.now }
     ensures { result ≡ phase_words table.now member }

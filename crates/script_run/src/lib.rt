@@ -15,7 +15,7 @@ mod lines;
 pub mod steps;
 
 // How far a script has come: the number of the next line, the size of the table once it is opened, and how many bytes of the line are kept.
-// Line 0 is the first; above 1,000,000 the script is over.
+// Line 0 is the first; above 1,000,000 the script is over: a number, as `State` of the definitions counts the lines too.
 #[derive(Clone, Copy)]
 pub struct Progress {
     pub step: u32,

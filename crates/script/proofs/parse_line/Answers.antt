@@ -73,16 +73,19 @@ returns-in_err-member-2 c =
 
 pub returns-in-Some-strip_prefix : goal.returns-in-Some-strip_prefix
 returns-in-Some-strip_prefix c =
-    ap held_line (sym (is_read (goal.at.returns-in-Some-strip_prefix c).In-Some-strip_prefix ∙ a_pair reads _ _ _ _ c.in_ok-member-2.ensures))
+    ap held_line
+    (sym (is_read (goal.at.returns-in-Some-strip_prefix c).In-Some-strip_prefix ∙ a_pair reads _ _ _ _ c.in_ok-member-2.ensures))
 
 pub returns-in_err-member-3 : goal.returns-in_err-member-3
 returns-in_err-member-3 c =
     c.from_residual-in_err-member-3.ensures
-    ∙ ap held_line (sym (is_deliver (goal.at.returns-in_err-member-3 c).In-Some-strip_prefix-2 ∙ no_number delivers _ c.in_err-member-3.ensures))
+    ∙ ap held_line
+    (sym (is_deliver (goal.at.returns-in_err-member-3 c).In-Some-strip_prefix-2 ∙ no_number delivers _ c.in_err-member-3.ensures))
 
 pub returns-in-Some-strip_prefix-2 : goal.returns-in-Some-strip_prefix-2
 returns-in-Some-strip_prefix-2 c =
-    ap held_line (sym (is_deliver (goal.at.returns-in-Some-strip_prefix-2 c).In-Some-strip_prefix-2 ∙ a_number delivers _ _ c.in_ok-member-3.ensures))
+    ap held_line
+    (sym (is_deliver (goal.at.returns-in-Some-strip_prefix-2 c).In-Some-strip_prefix-2 ∙ a_number delivers _ _ c.in_ok-member-3.ensures))
 
 pub returns-in_err-rest : goal.returns-in_err-rest
 unfolding line_of

@@ -8,10 +8,12 @@ use borrow.Author.Tests.{eqb-true, eqb-false}
 use Rattle.lists.specs.Parts.{words}
 use Rattle.model.specs.Script.{digits_read, limited, number_of}
 use Rattle.script.specs.Meaning.{held_number}
-use Rattle.script.proofs.Reading.{digit_high, digit_read, digit_none, read_more, read_stops, read_end, power_next, number_plain, number_refused, number_fits}
+use Rattle.script.proofs.Reading.{digit_high, digit_read, digit_none, read_more, read_stops, read_end, power_next}
+use Rattle.script.proofs.Reading.{number_plain, number_refused, number_fits}
 use Rattle.script.proofs.parse_number.Goals as goal
 use Rattle.script.proofs.parse_number.Goals.{At-loop-b, Else-leading_zero}
-use Rattle.script.proofs.parse_number.Goals.{then-is_empty-via-then-is_empty, then-is_empty-via-else-is_empty+then-t-gt10, then-is_empty-via-else-is_empty+else-t-gt10+then-leading_zero}
+use Rattle.script.proofs.parse_number.Goals.{then-is_empty-via-then-is_empty, then-is_empty-via-else-is_empty+then-t-gt10}
+use Rattle.script.proofs.parse_number.Goals.{then-is_empty-via-else-is_empty+else-t-gt10+then-leading_zero}
 
 pub returns-then-is_empty : goal.returns-then-is_empty
 returns-then-is_empty c = rw (number_refused c.args.t.now (elim c.then-is_empty.branch [
@@ -25,7 +27,9 @@ not_empty c = let n : length c.args.t.now ≡ 0 → ⊥ = eqb-false _ 0 (sym c.i
 
 -- no ground but the digits themselves is left, and those passed write the value
 passed : (c : At-loop-b) → let t = c.args.t.now in number_of t ≡ limited (digits_read c.loop-b.value (drop c.loop-b.b-index t))
-passed c = number_plain c.args.t.now (not_empty (goal.at.At-loop-b c).Else-leading_zero) (sym c.if-leading_zero.ensures) ∙ ap limited (sym c.loop-b.invariant.1)
+passed c =
+    number_plain c.args.t.now (not_empty (goal.at.At-loop-b c).Else-leading_zero) (sym c.if-leading_zero.ensures)
+    ∙ ap limited (sym c.loop-b.invariant.1)
 
 pub returns-in_err-value : goal.returns-in_err-value
 unfolding limited

@@ -51,5 +51,6 @@ returns-in-Ok c =
     ∙ ap (λ t. ended 1 t (opens n)) (sym (opens_words (goal.at.returns-in-Ok c).After-open)) in
     ended-ran a.p a.table.now a.kept.now c.requires (first_line a.p a.table.now a.kept.now) _ 1 known.result words
     (ap length (opens_words (goal.at.returns-in-Ok c).After-open) ∙ length-table n (opened n) ∙ sym known.ensures.0) known.ensures.1
-    (rw (opens_words (goal.at.returns-in-Ok c).After-open) (whole_words n (opened n) c.in-Ok.ensures.within.least c.in-Ok.ensures.within.most))
+    (rw (opens_words (goal.at.returns-in-Ok c).After-open)
+    (whole_words n (opened n) c.in-Ok.ensures.within.least c.in-Ok.ensures.within.most))
     (opens n) e refl (refl, c.in-Ok.ensures.within.most)

@@ -7,7 +7,8 @@ use Rattle.script_run.proofs.Held.{nothing_shown, refused_shown, opened_shown, s
 use Rattle.script_run.proofs.steps.print_event.Goals as goal
 
 pub returns-in_default : goal.returns-in_default
-returns-in_default c l h = rw (nothing_shown l (rw c.in_default.is at h)) (wrote_nothing c.args.out.now c.args.at (omega (arith, c.requires)))
+returns-in_default c l h =
+    rw (nothing_shown l (rw c.in_default.is at h)) (wrote_nothing c.args.out.now c.args.at (omega (arith, c.requires)))
 
 pub print_refused-requires : goal.print_refused-requires
 print_refused-requires c = omega (arith, c.requires, refused_short c.number.result (search rules))

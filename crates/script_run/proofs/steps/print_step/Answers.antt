@@ -18,11 +18,13 @@ use Rattle.script_run.proofs.steps.print_step.Goals.{After-number, After-returne
 
 -- The lines that are printed are short.
 
-malformed_room : (c : After-number) → c.args.at + length (printed_line c.args.step c.number.result (given None) (given None)) ≤ length c.args.out.now
+malformed_room : (c : After-number)
+    → c.args.at + length (printed_line c.args.step c.number.result (given None) (given None)) ≤ length c.args.out.now
 malformed_room c = omega (arith, line_short c.args.step c.number.result None None (search rules) (search rules) tt tt, c.requires)
 
 room : (c : After-returned_word-word)
-    → c.args.at + length (printed_line c.args.step c.answer-answer.result (given c.shown_phase-phase.result) (given c.returned_word-word.result))
+    → c.args.at + length
+    (printed_line c.args.step c.answer-answer.result (given c.shown_phase-phase.result) (given c.returned_word-word.result))
     ≤ length c.args.out.now
 room c =
     omega (
