@@ -6,7 +6,7 @@ ghost use Rattle.model.specs.RecordWords.{value_of};
 ghost use Rattle.model.specs.Halves.{member_begin_number, member_begin_words};
 ghost use Rattle.rules.specs.Refusals.{answer};
 
-use crate::checks::check_begin;
+use crate::grounds::check_begin;
 use member_block::steps;
 use rules::{Kind, Refusal};
 

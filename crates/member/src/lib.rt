@@ -14,11 +14,11 @@ ghost use Rattle.rules.specs.Refusals.{answer};
 ghost use Rattle.member_block.specs.Results.{returned_of};
 
 pub mod auction;
-mod checks;
+mod grounds;
 mod kinds;
 mod lent;
 
-use checks::{check_crash, check_outcome, check_reply};
+use grounds::{check_crash, check_outcome, check_reply};
 use kinds::begin_by;
 use member_block::steps;
 use records::Record;
