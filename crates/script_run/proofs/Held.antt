@@ -115,7 +115,8 @@ module _ (table line : List ℕ) where
   step_made read h = rw (some_call (line_of line) read h)
 
 -- What was seen at the call of a line, as it is held.
-pub call_shown : (table : List ℕ) (read : LineRead) (outcome : Result (CodeOption (List ℕ)) Refusal) (after : List ℕ) (phase : ℕ) → let call = call_by read in
+pub call_shown : (table : List ℕ) (read : LineRead) (outcome : Result (CodeOption (List ℕ)) Refusal) (after : List ℕ) (phase : ℕ) →
+    let call = call_by read in
     answer outcome ≡ table_answer concur table call → returned_of outcome ≡ table_returns concur table call
     → after ≡ table_after concur table call → phase ≡ phase_words after (line_member read)
     → Shows (record { line = read; outcome = outcome; phase = phase }) call (table_seen concur table call)
