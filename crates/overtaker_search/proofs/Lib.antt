@@ -1,4 +1,3 @@
-pub mod Tests
 pub mod LineTaken
 pub mod Stages
 pub mod Searched

@@ -4,20 +4,19 @@ use mathlib.Core.Path.{◌≡◌, refl, sym, ap, subst, ◌∙◌}
 use mathlib.Core.Bool.{Bool, ◌&&◌, ◌||◌}
 use mathlib.Core.List.{List, ◌∷◌}
 use mathlib.Core.Option.{Option, none, some}
+use Rattle.std.specs.Prelude.{Some, None}
 use native.Mathlib.Omega.{arith}
 use lib.Dec.{eqb}
 use Rattle.lists.proofs.Functions.{on, split}
 use Rattle.model.specs.Kinds.{concur}
 use Rattle.model.specs.Runs.{Call, begin, deliver, crash, Seen, Step, step}
 use Rattle.model.specs.Script.{step_line}
-use Rattle.model.specs.Overtaker.{refuses}
+use Rattle.model.specs.Overtaker.{Overtaker, refuses}
 use Rattle.script_run.specs.Meaning.{Shows, StepHeld}
 use Rattle.script_run.specs.declared.Done.{Done}
-use Rattle.overtaker_search.specs.Meaning.{held_overtaker}
-use Rattle.overtaker_search.specs.Search.{Search, search_of, search_begin, search_own, search_other, search_submit, search_judged}
+use Rattle.overtaker_search.specs.Search.{Search, search_of, search_begin, search_submit}
 use Rattle.overtaker_search.specs.Search.{search_verdict, search_deliver, search_call, search_next, search_step}
 use Rattle.overtaker_search.specs.Search.{unless_malformed, lines_searched}
-use Rattle.overtaker_search.specs.declared.Overtaker.{Overtaker}
 use Rattle.overtaker_search.specs.declared.steps.Search.{Search as SearchStruct}
 
 -- A step counts itself, and one begin at most.
@@ -32,22 +31,21 @@ same_counts s r e f = record { steps = e; begun = omega arith }
 
 module _ (i k : ℕ) (s : Search) where
   begin-counted : (j r : ℕ) → Counted s (search_begin i (search_next s) j r)
-  unfolding search_begin search_next
+  unfolding search_begin
   begin-counted j r = record {
     steps = refl;
     begun = on (eqb j i) (λ e. rw e (omega arith)) (λ e. rw e (omega arith));
   }
 
   submit-counted : (j : ℕ) → Counted s (search_submit i k (search_next s) j)
-  unfolding search_submit search_own search_other search_next
+  unfolding search_submit
   submit-counted j = split (Counted s) (eqb j i) (λ e. same_counts s _ refl refl) (λ e. same_counts s _ refl refl)
 
   verdict-counted : (j : ℕ) (a : Bool) → Counted s (search_verdict i (search_next s) j a)
-  unfolding search_verdict search_judged search_next
+  unfolding search_verdict
   verdict-counted j a = split (Counted s) (eqb j i && s.follows) (λ e. same_counts s _ refl refl) (λ e. same_counts s _ refl refl)
 
   next-counted : Counted s (search_next s)
-  unfolding search_next
   next-counted = same_counts s _ refl refl
 
   call-counted : (call : Call) (seen : Seen) → Counted s (search_call i k (search_next s) call seen)
@@ -66,43 +64,39 @@ module _ (i k : ℕ) (s : Search) where
 
 -- The next line.
 
-malformed_ends : (d : Done) (x : Option Step) (next : Call → Seen → Overtaker) → StepHeld d x → d.line.kind ≡ 0
-    → unless_malformed x next ≡ held_overtaker (refuses 17)
-unfolding unless_malformed
-malformed_ends d none next h z = refl
-malformed_ends d (some (step call s)) next h z = absurd (omega (arith, h.kind))
+some_shown : (P : Type 0) (d : Done) (x : Option Step) → StepHeld (Some d) x → ((call : Call) (s : Seen) → Shows d call s → P) → P
+some_shown P d none h e = absurd h
+some_shown P d (some (step call s)) h e = e call s h
 
-step_goes : (d : Done) (x : Option Step) (next : Call → Seen → Overtaker) (end : Overtaker) → StepHeld d x → (d.line.kind ≡ 0 → ⊥)
-    → ((call : Call) (s : Seen) → Shows d call s → next call s ≡ end) → unless_malformed x next ≡ end
-unfolding unless_malformed
-step_goes d none next end h k e = absurd (k h.0)
-step_goes d (some (step call s)) next end h k e = e call s h
-
--- as the code holds them
-some_shown : (P : Type 0) (d : Done) (x : Option Step) → StepHeld d x → (d.line.kind ≡ 0 → ⊥)
-    → ((call : Call) (s : Seen) → Shows d call s → P) → P
-some_shown P d none h k e = absurd (k h.0)
-some_shown P d (some (step call s)) h k e = e call s h
-
-pub held_counts : (i k : ℕ) (s r : SearchStruct) (d : Done) (x : Option Step) → StepHeld d x → (d.line.kind ≡ 0 → ⊥)
+pub held_counts : (i k : ℕ) (s r : SearchStruct) (d : Done) (x : Option Step) → StepHeld (Some d) x
     → ((call : Call) (seen : Seen) → Shows d call seen → search_of r ≡ search_step i k (search_of s) call seen)
     → (r.steps ≡ s.steps + 1) × (r.begun ≤ s.begun + 1)
-unfolding search_of
-held_counts i k s r d x h z e = some_shown _ d x h z
+held_counts i k s r d x h e = some_shown _ d x h
     (λ call seen shows. let c = subst (Counted (search_of s)) (sym (e call seen shows)) (step-counted i k (search_of s) call seen) in
     (c.steps, c.begun))
 
-module _ (i k : ℕ) (line : List ℕ) (behind : List (List ℕ)) (table : List ℕ) (s : Search) (d : Done)
-    (held : StepHeld d (step_line concur table line).happened) where
-  pub search_ends : d.line.kind ≡ 0 → lines_searched i k table s (line ∷ behind) ≡ held_overtaker (refuses 17)
-  unfolding lines_searched
-  search_ends z = malformed_ends d (step_line concur table line).happened _ held z
+malformed_ends : (x : Option Step) (next : Call → Seen → Overtaker) → StepHeld None x → unless_malformed x next ≡ refuses 17
+unfolding unless_malformed
+malformed_ends none next h = refl
+malformed_ends (some s) next h = absurd h
 
-  pub search_goes : (d.line.kind ≡ 0 → ⊥) → (after : List ℕ) → after ≡ (step_line concur table line).table
+step_goes : (d : Done) (x : Option Step) (next : Call → Seen → Overtaker) (end : Overtaker) → StepHeld (Some d) x
+    → ((call : Call) (s : Seen) → Shows d call s → next call s ≡ end) → unless_malformed x next ≡ end
+unfolding unless_malformed
+step_goes d none next end h e = absurd h
+step_goes d (some (step call s)) next end h e = e call s h
+
+module _ (i k : ℕ) (line : List ℕ) (behind : List (List ℕ)) (table : List ℕ) (s : Search) where
+  pub search_ends : StepHeld None (step_line concur table line).happened → lines_searched i k table s (line ∷ behind) ≡ refuses 17
+  unfolding lines_searched
+  search_ends held = malformed_ends (step_line concur table line).happened _ held
+
+  pub search_goes : (d : Done) → StepHeld (Some d) (step_line concur table line).happened → (after : List ℕ)
+      → after ≡ (step_line concur table line).table
       → (r : Search) → ((call : Call) (seen : Seen) → Shows d call seen → r ≡ search_step i k s call seen)
       → lines_searched i k table s (line ∷ behind) ≡ lines_searched i k after r behind
   unfolding lines_searched
-  search_goes z after e r h =
-      step_goes d (step_line concur table line).happened _ (lines_searched i k after r behind) held z
+  search_goes d held after e r h =
+      step_goes d (step_line concur table line).happened _ (lines_searched i k after r behind) held
       (λ call seen shows. ap (λ x. lines_searched i k (step_line concur table line).table x behind) (sym (h call seen shows))
       ∙ ap (λ l. lines_searched i k l r behind) (sym e))

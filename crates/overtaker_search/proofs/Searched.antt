@@ -10,7 +10,7 @@ use lib.Dec.{eqb}
 use borrow.Author.Tests.{eq-eqb, ne_eqb, eqb-true, eqb-false}
 use Rattle.lists.specs.Every.{Every}
 use Rattle.lists.specs.Functions.{put, inside}
-use Rattle.lists.proofs.Functions.{on, first, put_all, put_both}
+use Rattle.lists.proofs.Functions.{on, put_all, put_both}
 use Rattle.model.specs.Kinds.{Kind, concur}
 use Rattle.model.specs.Records.{Value}
 use Rattle.model.specs.Board.{Board, opened}
@@ -22,7 +22,7 @@ use Rattle.model.specs.Demand3.{Demand3}
 use Rattle.model.specs.Table.{table_words}
 use Rattle.model.specs.TableCalls.{table_after, table_seen, table_run}
 use Rattle.model.specs.Script.{line_call, with_call, calls_of, stepped, step_line}
-use Rattle.model.specs.Overtaker.{refuses, names, named, aborted_op, overtaker_in, is_call, well_formed, lines_overtaker}
+use Rattle.model.specs.Overtaker.{Overtaker, refuses, names, named, aborted_op, overtaker_in, is_call, well_formed, lines_overtaker}
 use Rattle.model.proofs.HistoryLists.{every}
 use Rattle.model.proofs.PositionsInvariant.{Moved, stays, begins, submits, replies, judges, ends, Places, later, with_running}
 use Rattle.model.proofs.PositionsInvariant.{with_decided, next_op}
@@ -30,12 +30,10 @@ use Rattle.model.proofs.Positions.{beside}
 use Rattle.model.proofs.Overtaker.{watched_left}
 use Rattle.model.proofs.OvertakerMarks.{Marks, marks_after, marks_nothing}
 use Rattle.runs.proofs.Scripts.{steps_run}
-use Rattle.overtaker_search.specs.Meaning.{held_overtaker}
 use Rattle.overtaker_search.specs.Search.{Search, or_first, search_start, search_begin, search_own, search_other, search_submit}
-use Rattle.overtaker_search.specs.Search.{search_judged, search_verdict, search_deliver, search_call, search_next, search_step}
+use Rattle.overtaker_search.specs.Search.{search_verdict, search_deliver, search_call, search_next, search_step}
 use Rattle.overtaker_search.specs.Search.{search_answer, unless_malformed, lines_searched}
-use Rattle.overtaker_search.specs.declared.Overtaker.{Overtaker}
-use Rattle.overtaker_search.proofs.Stages.{shown, Stage, waits, stage-begins, stage-submits, stage-replies, stage-judges}
+use Rattle.overtaker_search.proofs.Stages.{Stage, waits, stage-begins, stage-submits, stage-replies, stage-judges}
 use Rattle.overtaker_search.proofs.Stages.{stage-overtaken, stage-apart, stage-ended, stage-idle, stage-answers}
 
 -- the operation whose submit member j sends, once that is taken, and the submits with it
@@ -95,7 +93,6 @@ module _ (i k : ℕ) where
     early = every (λ u l. omega arith) w.submits t.early
 
     agrees-stays : Agrees p (later w) (search_next s)
-    unfolding search_next
     agrees-stays = record { steps = omega (arith, a.steps); slots = a.slots; stage = a.stage }
 
     -- the same after a step that moved member j: at it, and at every other member
@@ -104,7 +101,7 @@ module _ (i k : ℕ) where
 
     agrees-begins : (j r u : ℕ) (v : Value) → p j ≡ 0
         → Agrees (put p j 1) (with_running w j (next_op w j r u v) w.submits) (search_begin i (search_next s) j r)
-    unfolding search_next search_begin begun_op
+    unfolding search_begin begun_op
     agrees-begins j r u v idle =
         let o = next_op w j r u v in
         record {
@@ -126,7 +123,7 @@ module _ (i k : ℕ) where
       same-slots = put_all (λ m o. s.slots m ≡ o.given.slot) w.running j (taken_op w j) (a.slots j) (λ m d. a.slots m)
 
       agrees-own : p j ≡ 1 → j ≡ i → Agrees (put p j 2) (with_running w j (taken_op w j) (with_submit w j)) (search_own k (search_next s) j)
-      unfolding search_next search_own submitted_op submit_of
+      unfolding submitted_op submit_of
       agrees-own one own =
           let b = at_stage j own in
           let before : Every (λ u. u.at ≤ w.steps + 1) w.submits = every (λ u l. omega arith) w.submits early in
@@ -143,14 +140,13 @@ module _ (i k : ℕ) where
       -- another's counts by its slot, and by the number of this step
       named-now : (r n : ℕ) → s.slots j ≡ r → s.steps ≡ n
           → (search_other (search_next s) j).first
-          ≡ cond (s.follows && eqb r s.slot) (or_first s.first (held_overtaker (names j (n + 1)))) s.first
-      unfolding search_next search_other
+          ≡ cond (s.follows && eqb r s.slot) (or_first s.first (names j (n + 1))) s.first
       named-now r n e f =
-          ap (λ x. cond (s.follows && eqb x s.slot) (or_first s.first (held_overtaker (names j (s.steps + 1)))) s.first) e
-          ∙ ap (λ x. cond (s.follows && eqb r s.slot) (or_first s.first (held_overtaker (names j (x + 1)))) s.first) f
+          ap (λ x. cond (s.follows && eqb x s.slot) (or_first s.first (names j (s.steps + 1))) s.first) e
+          ∙ ap (λ x. cond (s.follows && eqb r s.slot) (or_first s.first (names j (x + 1))) s.first) f
 
       agrees-other : (j ≡ i → ⊥) → Agrees (put p j 2) (with_running w j (taken_op w j) (with_submit w j)) (search_other (search_next s) j)
-      unfolding search_next search_other submitted_op submit_of
+      unfolding submitted_op submit_of
       agrees-other other = record {
         steps = omega (arith, a.steps);
         slots = same-slots;
@@ -174,7 +170,6 @@ module _ (i k : ℕ) where
           (λ e. rw e (agrees-other (eqb-false j i e)))
 
     agrees-replies : (j : ℕ) → p j ≡ 2 → Agrees (put p j 3) (later w) (search_next s)
-    unfolding search_next
     agrees-replies j two = record {
       steps = omega (arith, a.steps);
       slots = a.slots;
@@ -197,11 +192,11 @@ module _ (i k : ℕ) where
         begun = s.begun;
         follows = cond s.follows false s.follows;
         slot = s.slot;
-        first = cond s.follows (cond accepted (shown none) s.first) s.first;
+        first = cond s.follows (cond accepted (named none) s.first) s.first;
       }
 
       verdict_own : j ≡ i → search_verdict i (search_next s) j accepted ≡ left
-      unfolding search_verdict search_next search_judged named
+      unfolding search_verdict named
       verdict_own e = on s.follows (λ f. rw (eq-eqb j i e, f)) (λ f. rw (eq-eqb j i e, f))
 
       verdict_other : (j ≡ i → ⊥) → search_verdict i (search_next s) j accepted ≡ search_next s
@@ -223,7 +218,7 @@ module _ (i k : ℕ) where
       }
 
       agrees-apart : p j ≡ 3 → (j ≡ i → ⊥) → Agrees (put p j (cond accepted 4 5)) judged (search_next s)
-      unfolding search_next decided_op
+      unfolding decided_op
       agrees-apart three other = record {
         steps = omega (arith, a.steps);
         slots = a.slots;
@@ -241,7 +236,6 @@ module _ (i k : ℕ) where
 
     agrees-ends : (j : ℕ) (v : Option Value) → 4 ≤ p j
         → Agrees (put p j 0) (with_decided w (ended j (w.steps + 1) v w.decided)) (search_next s)
-    unfolding search_next
     agrees-ends j v four = record {
       steps = omega (arith, a.steps);
       slots = a.slots;
@@ -286,7 +280,7 @@ module _ (i k : ℕ) where
 
   -- Of every run of which demand 3 holds.
   run-searched : (kind : Kind) (n : ℕ) (calls : List Call) (boards : List Board) (seen : List Seen) → Demand3 kind n calls boards seen
-      → search_answer (beside (search_step i k) search_start calls seen) ≡ held_overtaker (named (overtaker_in (watched calls seen) i k))
+      → search_answer (beside (search_step i k) search_start calls seen) ≡ named (overtaker_in (watched calls seen) i k)
   unfolding overtaker_in search_answer named
   run-searched kind n calls boards seen d =
       let look = step_at calls seen in
@@ -300,7 +294,7 @@ module _ (i k : ℕ) where
   -- what the lines from a table on give
   abbrev as_run : List ℕ → Search → Bool → List Call → Overtaker
   as_run table s formed calls =
-      cond (not formed) (held_overtaker (refuses 17)) (search_answer (beside (search_step i k) s calls (table_run concur table calls)))
+      cond (not formed) (refuses 17) (search_answer (beside (search_step i k) s calls (table_run concur table calls)))
 
   -- a line and the others
   line-searched : (table : List ℕ) (s : Search) (call : Option Call) (lines : List (List ℕ)) (formed : Bool) (calls : List Call)
@@ -322,7 +316,7 @@ module _ (i k : ℕ) where
 
   -- The lines after the first, on the board that it opened.
   pub lines_answered : (n : ℕ) (lines : List (List ℕ)) → inside 12 n ≡ true
-      → lines_searched i k (table_words n (opened n)) search_start lines ≡ held_overtaker (lines_overtaker n lines i k)
+      → lines_searched i k (table_words n (opened n)) search_start lines ≡ lines_overtaker n lines i k
   unfolding lines_overtaker
   lines_answered n lines size =
       let steps = steps_run concur n size lines in

@@ -13,11 +13,9 @@ use Rattle.lists.specs.Every.{Every}
 use Rattle.lists.proofs.Functions.{on, fails, apart}
 use Rattle.model.specs.Records.{Value}
 use Rattle.model.specs.History.{Op, Submit, submitted_op, submit_of, decided_op, ended_op, ended, overtakes}
-use Rattle.model.specs.Overtaker.{names, named, is_aborted, aborted_op, earlier, first_overtaking, overtaking}
+use Rattle.model.specs.Overtaker.{Overtaker, names, named, is_aborted, aborted_op, earlier, first_overtaking, overtaking}
 use Rattle.model.proofs.Overtaker.{is_aborted_lem, so_aborted, op_found}
-use Rattle.overtaker_search.specs.Meaning.{held_overtaker}
 use Rattle.overtaker_search.specs.Search.{or_first}
-use Rattle.overtaker_search.specs.declared.Overtaker.{Overtaker}
 
 some_or_none : {A : Type 0} {x : A} → ◌≡◌ {A = Option A} (some x) none → ⊥
 some_or_none e = let z : ◌≡◌ {A = ℕ} 0 1 = cc in omega arith
@@ -60,10 +58,6 @@ overtaking_past s submits (some o) h =
     let past : overtakes s o ≡ false =
     fails (eqb s.slot o.given.slot) (fails (ltb o.submit_at s.at) (le-ltb s.at o.verdict_at (h o refl))) in
     rw past (earlier_none (first_overtaking o submits))
-
--- who is named of a submit or none
-abbrev pub shown : Option Submit → Overtaker
-shown x = held_overtaker (named x)
 
 -- Operations.
 
@@ -116,49 +110,49 @@ module _ (i k : ℕ) where
 
   -- the member's phase and the operation that it began last; the operations decided and the submits; what is remembered
   pub data Stage (phase : ℕ) (o : Op) (ops : List Op) (submits : List Submit) (follows : Bool) (slot : ℕ) (first : Overtaker) : Type 0 where
-    waits : o.ordinal ≤ k → (o.ordinal ≡ k → phase ≤ 1) → follows ≡ false → first ≡ shown none → aborted_op i k ops ≡ none
+    waits : o.ordinal ≤ k → (o.ordinal ≡ k → phase ≤ 1) → follows ≡ false → first ≡ named none → aborted_op i k ops ≡ none
         → Stage phase o ops submits follows slot first
     runs : o.ordinal ≡ k → 2 ≤ phase → phase ≤ 3 → follows ≡ true → slot ≡ o.given.slot
-        → first ≡ shown (first_since o.given.slot o.submit_at submits) → aborted_op i k ops ≡ none
+        → first ≡ named (first_since o.given.slot o.submit_at submits) → aborted_op i k ops ≡ none
         → Stage phase o ops submits follows slot first
     done : k ≤ o.ordinal → (o.ordinal ≡ k → 1 ≤ phase → 4 ≤ phase) → follows ≡ false
-        → first ≡ shown (overtaking (aborted_op i k ops) submits) → Stage phase o ops submits follows slot first
+        → first ≡ named (overtaking (aborted_op i k ops) submits) → Stage phase o ops submits follows slot first
 
-  none-shown : (ops : List Op) (submits : List Submit) {first : Overtaker} → first ≡ shown none → aborted_op i k ops ≡ none
-      → first ≡ shown (overtaking (aborted_op i k ops) submits)
+  none-named : (ops : List Op) (submits : List Submit) {first : Overtaker} → first ≡ named none → aborted_op i k ops ≡ none
+      → first ≡ named (overtaking (aborted_op i k ops) submits)
   unfolding overtaking
-  none-shown ops submits f n = rw n f
+  none-named ops submits f n = rw n f
 
   -- what was found stays what it is while no submit comes before a verdict
-  past-shown : (ops : List Op) (s : Submit) (submits : List Submit) {first : Overtaker} → Every (λ o. o.verdict_at ≤ s.at) ops
-      → first ≡ shown (overtaking (aborted_op i k ops) submits) → first ≡ shown (overtaking (aborted_op i k ops) (s ∷ submits))
-  past-shown ops s submits h f =
-      f ∙ ap shown (sym (overtaking_past s submits (aborted_op i k ops)
+  past-named : (ops : List Op) (s : Submit) (submits : List Submit) {first : Overtaker} → Every (λ o. o.verdict_at ≤ s.at) ops
+      → first ≡ named (overtaking (aborted_op i k ops) submits) → first ≡ named (overtaking (aborted_op i k ops) (s ∷ submits))
+  past-named ops s submits h f =
+      f ∙ ap named (sym (overtaking_past s submits (aborted_op i k ops)
       (λ o e. (op_found i k ops o e).listed (λ o. o.verdict_at ≤ s.at) h)))
 
   -- a submit on its slot is the first since its own, if there was none before
-  more-shown : (x : Option Submit) (first : Overtaker) (s : Submit) → first ≡ shown x
-      → or_first first (held_overtaker (names s.member s.at)) ≡ shown (earlier x (some s))
-  unfolding held_overtaker named earlier
-  more-shown none first s f = rw f
-  more-shown (some u) first s f = rw f
+  more-named : (x : Option Submit) (first : Overtaker) (s : Submit) → first ≡ named x
+      → or_first first (names s.member s.at) ≡ named (earlier x (some s))
+  unfolding named earlier
+  more-named none first s f = rw f
+  more-named (some u) first s f = rw f
 
   first_more : (o : Op) (submits : List Submit) (slot : ℕ) (first : Overtaker) (s : Submit) → slot ≡ o.given.slot → o.submit_at < s.at
-      → first ≡ shown (first_since o.given.slot o.submit_at submits)
-      → cond (eqb s.slot slot) (or_first first (held_overtaker (names s.member s.at))) first
-      ≡ shown (first_since o.given.slot o.submit_at (s ∷ submits))
+      → first ≡ named (first_since o.given.slot o.submit_at submits)
+      → cond (eqb s.slot slot) (or_first first (names s.member s.at)) first
+      ≡ named (first_since o.given.slot o.submit_at (s ∷ submits))
   unfolding first_since
   first_more o submits slot first s same late f = rw (same, lt-ltb o.submit_at s.at late)
       (on (eqb s.slot o.given.slot)
-      (λ e. rw e (more-shown (first_since o.given.slot o.submit_at submits) first s f))
-      (λ e. rw e (f ∙ ap shown (sym (earlier_none (first_since o.given.slot o.submit_at submits))))))
+      (λ e. rw e (more-named (first_since o.given.slot o.submit_at submits) first s f))
+      (λ e. rw e (f ∙ ap named (sym (earlier_none (first_since o.given.slot o.submit_at submits))))))
 
   module _ {o : Op} {ops : List Op} {submits : List Submit} {follows : Bool} {slot : ℕ} {first : Overtaker} where
     -- Its member begins its next.
     pub stage-begins : (next : Op) → next.ordinal ≡ o.ordinal + 1 → Stage 0 o ops submits follows slot first
         → Stage 1 next ops submits follows slot first
     stage-begins next e (waits l p f s n) = on (eqb o.ordinal k)
-        (λ t. let same = eqb-true o.ordinal k t in done (omega arith) (λ d. absurd (omega arith)) f (none-shown ops submits s n))
+        (λ t. let same = eqb-true o.ordinal k t in done (omega arith) (λ d. absurd (omega arith)) f (none-named ops submits s n))
         (λ t. let other = eqb-false o.ordinal k t in waits (omega arith) (λ d. omega arith) f s n)
     stage-begins next e (runs q l m f r s n) = absurd (omega arith)
     stage-begins next e (done l p f s) = done (omega arith) (λ d. absurd (omega arith)) f s
@@ -170,12 +164,12 @@ module _ (i k : ℕ) where
     unfolding submitted_op submit_of
     stage-submits j at early past (waits l p f s n) = on (eqb o.ordinal k)
         (λ t. runs (eqb-true o.ordinal k t) (omega arith) (omega arith) t refl
-        (s ∙ ap shown (sym (since_none o.given.slot at (submit_of at j o ∷ submits) (omega arith, early)))) n)
+        (s ∙ ap named (sym (since_none o.given.slot at (submit_of at j o ∷ submits) (omega arith, early)))) n)
         (λ t. waits l (λ e. absurd (eqb-false o.ordinal k t e)) t s n)
     stage-submits j at early past (runs q l m f r s n) = absurd (omega arith)
     stage-submits j at early past (done l p f s) =
         let other : o.ordinal ≡ k → ⊥ = λ e. let d = p e (omega arith) in omega arith in
-        done l (λ e. absurd (other e)) (ne_eqb o.ordinal k other) (past-shown ops (submit_of at j o) submits past s)
+        done l (λ e. absurd (other e)) (ne_eqb o.ordinal k other) (past-named ops (submit_of at j o) submits past s)
 
     -- its submit is answered
     pub stage-replies : Stage 2 o ops submits follows slot first → Stage 3 o ops submits follows slot first
@@ -187,22 +181,22 @@ module _ (i k : ℕ) where
     pub stage-judges : (at : ℕ) (a : Bool) → o.given.member ≡ i → Every (λ s. s.at < at) submits
         → Stage 3 o ops submits follows slot first
         → Stage (cond a 4 5) o (decided_op at a o ∷ ops) submits (cond follows false follows) slot
-        (cond follows (cond a (shown none) first) first)
+        (cond follows (cond a (named none) first) first)
     unfolding decided_op overtaking
     stage-judges at a m early (waits l p f s n) =
         let other : o.ordinal ≡ k → ⊥ = λ e. let d = p e in omega arith in
         rw f (waits l (λ e. absurd (other e)) refl s (aborted-other (decided_op at a o) ops (λ m e x. other e) ∙ n))
     stage-judges at true m early (runs q l z f r s n) =
         let None-found = aborted-other (decided_op at true o) ops (λ m e x. absurd (apart refl x)) ∙ n in
-        rw f (done (omega arith) (λ e h. omega arith) refl (none-shown (decided_op at true o ∷ ops) submits refl None-found))
+        rw f (done (omega arith) (λ e h. omega arith) refl (none-named (decided_op at true o ∷ ops) submits refl None-found))
     stage-judges at false m early (runs q l z f r s n) =
         let d = decided_op at false o in
         let found = ap (λ x. overtaking x submits) (aborted-found d ops m q refl) ∙ since_overtaking d submits early in
-        rw f (done (omega arith) (λ e h. omega arith) refl (s ∙ ap shown (sym found)))
+        rw f (done (omega arith) (λ e h. omega arith) refl (s ∙ ap named (sym found)))
     stage-judges at a m early (done l p f s) =
         let other : o.ordinal ≡ k → ⊥ = λ e. let d = p e (omega arith) in omega arith in
         rw f (done l (λ e. absurd (other e)) refl
-        (s ∙ ap (λ x. shown (overtaking x submits)) (sym (aborted-other (decided_op at a o) ops (λ m e x. other e)))))
+        (s ∙ ap (λ x. named (overtaking x submits)) (sym (aborted-other (decided_op at a o) ops (λ m e x. other e)))))
 
     -- What another member does, whatever the phase is.
     module _ {phase : ℕ} where
@@ -210,10 +204,10 @@ module _ (i k : ℕ) where
       pub stage-overtaken : (s : Submit) → o.submit_at < s.at → Every (λ o. o.verdict_at ≤ s.at) ops
           → Stage phase o ops submits follows slot first
           → Stage phase o ops (s ∷ submits) follows slot
-          (cond (follows && eqb s.slot slot) (or_first first (held_overtaker (names s.member s.at))) first)
+          (cond (follows && eqb s.slot slot) (or_first first (names s.member s.at)) first)
       stage-overtaken s late past (waits l p f x n) = rw f (waits l p refl x n)
       stage-overtaken s late past (runs q l m f r x n) = rw f (runs q l m refl r (first_more o submits slot first s r late x) n)
-      stage-overtaken s late past (done l p f x) = rw f (done l p refl (past-shown ops s submits past x))
+      stage-overtaken s late past (done l p f x) = rw f (done l p refl (past-named ops s submits past x))
 
       -- an operation is judged
       pub stage-apart : (d : Op) → (d.given.member ≡ i → ⊥) → Stage phase o ops submits follows slot first
@@ -221,14 +215,14 @@ module _ (i k : ℕ) where
       stage-apart d m (waits l p f s n) = waits l p f s (aborted-other d ops (λ e x y. m e) ∙ n)
       stage-apart d m (runs q l z f r s n) = runs q l z f r s (aborted-other d ops (λ e x y. m e) ∙ n)
       stage-apart d m (done l p f s) =
-          done l p f (s ∙ ap (λ x. shown (overtaking x submits)) (sym (aborted-other d ops (λ e x y. m e))))
+          done l p f (s ∙ ap (λ x. named (overtaking x submits)) (sym (aborted-other d ops (λ e x y. m e))))
 
       -- an operation ends: another's, or its own member's
       pub stage-ended : (j at : ℕ) (v : Option Value) → Stage phase o ops submits follows slot first
           → Stage phase o (ended j at v ops) submits follows slot first
       stage-ended j at v (waits l p f s n) = waits l p f s (ended-none j at v ops n)
       stage-ended j at v (runs q l z f r s n) = runs q l z f r s (ended-none j at v ops n)
-      stage-ended j at v (done l p f s) = done l p f (s ∙ ap shown (sym (ended-overtaking j at v submits ops)))
+      stage-ended j at v (done l p f s) = done l p f (s ∙ ap named (sym (ended-overtaking j at v submits ops)))
 
       pub stage-idle : 4 ≤ phase → Stage phase o ops submits follows slot first → Stage 0 o ops submits follows slot first
       stage-idle h (waits l p f s n) = waits l (λ e. omega arith) f s n
@@ -237,7 +231,7 @@ module _ (i k : ℕ) where
 
       -- The answer is the definition's.
       pub stage-answers : Stage phase o ops submits follows slot first
-          → cond follows (shown none) first ≡ shown (overtaking (aborted_op i k ops) submits)
-      stage-answers (waits l p f s n) = rw f (none-shown ops submits s n)
-      stage-answers (runs q l z f r s n) = rw f (none-shown ops submits refl n)
+          → cond follows (named none) first ≡ named (overtaking (aborted_op i k ops) submits)
+      stage-answers (waits l p f s n) = rw f (none-named ops submits s n)
+      stage-answers (runs q l z f r s n) = rw f (none-named ops submits refl n)
       stage-answers (done l p f s) = rw f s

@@ -1,8 +1,11 @@
--- How the code holds the answer that the definition speaks of.
+-- What the code's answer tells, in the definition's words.
+use Rattle.std.specs.Prelude.{Result, Ok, Err}
 use Rattle.model.specs.Overtaker.{Overtaker, refuses, names}
+use Rattle.rules.specs.Refusals.{number}
+use Rattle.rules.specs.declared.refusal.Refusal.{Refusal}
 use Rattle.overtaker_search.specs.declared.Overtaker.{Overtaker as OvertakerStruct}
 
--- number 0 where somebody is named
-unfoldable pub held_overtaker : Overtaker → OvertakerStruct
-held_overtaker (refuses number) = record { number = number; member = 0; step = 0 }
-held_overtaker (names member step) = record { number = 0; member = member; step = step }
+-- a submit that is named, or a refusal by its number
+abbrev pub told_overtaker : Result OvertakerStruct Refusal → Overtaker
+told_overtaker (Ok o) = names o.member o.step
+told_overtaker (Err refusal) = refuses (number refusal)

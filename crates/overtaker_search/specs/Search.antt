@@ -1,15 +1,15 @@
 -- One pass over the steps of a run: what is remembered of the operation asked for, member i's k-th, and what each step does to that.
 -- That it ends with the answer which the watcher's lists give is a theorem (proofs/Searched.antt).
 use Rattle.std.specs.Prelude.{ℕ, ◌+◌, Bool, false, cond, ◌&&◌, ◌||◌, List, [], ◌∷◌, eqb}
+use Rattle.std.specs.Prelude.{Option as Held, Some, None}
 use Rattle.std.proofs.Math.Option.{Option, none, some}
 use Rattle.lists.specs.Functions.{put, numbered}
 use Rattle.lists.specs.Parts.{words}
 use Rattle.model.specs.Kinds.{concur}
 use Rattle.model.specs.Runs.{Call, begin, deliver, crash, Seen, Step, step}
 use Rattle.model.specs.Script.{step_line}
-use Rattle.model.specs.Overtaker.{refuses, names}
-use Rattle.overtaker_search.specs.Meaning.{held_overtaker}
-use Rattle.overtaker_search.specs.declared.Overtaker.{Overtaker}
+use Rattle.model.specs.Overtaker.{Overtaker, refuses, names}
+use Rattle.overtaker_search.specs.declared.Overtaker.{Overtaker as OvertakerStruct}
 use Rattle.overtaker_search.specs.declared.steps.Search.{Search as SearchStruct}
 
 -- the steps so far; the slot of the operation that each member began last; how many operations member i has begun; of the one asked for,
@@ -22,19 +22,24 @@ pub record Search : Type 0 where
   pub slot : ℕ
   pub first : Overtaker
 
--- as the code holds it
-unfoldable pub search_of : SearchStruct → Search
+-- as the code holds it: no submit is 31
+
+abbrev pub told_first : Held OvertakerStruct → Overtaker
+told_first None = refuses 31
+told_first (Some o) = names o.member o.step
+
+abbrev pub search_of : SearchStruct → Search
 search_of s = record {
   steps = s.steps;
   slots = numbered 12 0 (words s.slots);
   begun = s.begun;
   follows = s.follows;
   slot = s.slot;
-  first = s.first;
+  first = told_first s.first;
 }
 
 unfoldable pub search_start : Search
-search_start = record { steps = 0; slots = λ j. 0; begun = 0; follows = false; slot = 0; first = held_overtaker (refuses 31) }
+search_start = record { steps = 0; slots = λ j. 0; begun = 0; follows = false; slot = 0; first = refuses 31 }
 
 -- member j began an operation on slot r
 unfoldable pub search_begin : ℕ → Search → ℕ → ℕ → Search
@@ -49,10 +54,11 @@ search_begin i s j r = record {
 
 -- the first that was found stays
 abbrev pub or_first : Overtaker → Overtaker → Overtaker
-or_first first later = cond (eqb first.number 0) first later
+or_first (names m at) later = names m at
+or_first (refuses number) later = later
 
 -- the host took a submit of member i: if it is that of the operation asked for, submits on its slot count from now on
-unfoldable pub search_own : ℕ → Search → ℕ → Search
+abbrev pub search_own : ℕ → Search → ℕ → Search
 search_own k s i = record {
   steps = s.steps;
   slots = s.slots;
@@ -63,28 +69,28 @@ search_own k s i = record {
 }
 
 -- the host took a submit of another member j
-unfoldable pub search_other : Search → ℕ → Search
+abbrev pub search_other : Search → ℕ → Search
 search_other s j = record {
   steps = s.steps;
   slots = s.slots;
   begun = s.begun;
   follows = s.follows;
   slot = s.slot;
-  first = cond (s.follows && eqb (s.slots j) s.slot) (or_first s.first (held_overtaker (names j s.steps))) s.first;
+  first = cond (s.follows && eqb (s.slots j) s.slot) (or_first s.first (names j s.steps)) s.first;
 }
 
 unfoldable pub search_submit : ℕ → ℕ → Search → ℕ → Search
 search_submit i k s j = cond (eqb j i) (search_own k s j) (search_other s j)
 
 -- the host judged the operation asked for
-unfoldable pub search_judged : Search → Bool → Search
+abbrev pub search_judged : Search → Bool → Search
 search_judged s accepted = record {
   steps = s.steps;
   slots = s.slots;
   begun = s.begun;
   follows = false;
   slot = s.slot;
-  first = cond accepted (held_overtaker (refuses 31)) s.first;
+  first = cond accepted (refuses 31) s.first;
 }
 
 unfoldable pub search_verdict : ℕ → Search → ℕ → Bool → Search
@@ -103,7 +109,7 @@ search_call i k s (begin j r t v) seen = search_begin i s j r
 search_call i k s (deliver j) seen = search_deliver i k s j (seen.phases j)
 search_call i k s (crash j) seen = s
 
-unfoldable pub search_next : Search → Search
+abbrev pub search_next : Search → Search
 search_next s = record {
   steps = s.steps + 1;
   slots = s.slots;
@@ -119,12 +125,12 @@ search_step i k s call seen = cond (eqb seen.answer 0) (search_call i k (search_
 
 -- nobody is named before the verdict
 unfoldable pub search_answer : Search → Overtaker
-search_answer s = cond s.follows (held_overtaker (refuses 31)) s.first
+search_answer s = cond s.follows (refuses 31) s.first
 
 -- The lines of a script, each on the table that the one before left: one of another form is refused at once.
 
 unfoldable pub unless_malformed : Option Step → (Call → Seen → Overtaker) → Overtaker
-unless_malformed none next = held_overtaker (refuses 17)
+unless_malformed none next = refuses 17
 unless_malformed (some (step call seen)) next = next call seen
 
 unfoldable pub lines_searched : ℕ → ℕ → List ℕ → Search → List (List ℕ) → Overtaker
