@@ -1,89 +1,96 @@
 // The answer on a lent table, and what the program prints of it. Each function asks for the room that it needs.
-ghost use Rattle.std.specs.Prelude.{◌≡◌, ◌≤◌, length, take, drop};
+ghost use Rattle.std.specs.Prelude.{◌≡◌, ◌≤◌, length, take};
 ghost use Rattle.std.proofs.Math.Option.{Option};
-ghost use Rattle.model.specs.Script.{lines_of};
-ghost use Rattle.model.specs.Overtaker.{Overtaker as Answer, most_bytes, lines_overtaker, overtaker, Asked as Operation, overtaker_for};
+ghost use Rattle.model.specs.Overtaker.{most_bytes, lines_overtaker, overtaker, Asked as Operation, overtaker_for};
 ghost use Rattle.model.specs.Overtaker.{printed_overtaker};
-ghost use Rattle.script_run.specs.Meaning.{most_words};
-ghost use Rattle.overtaker_search.specs.Meaning.{held_overtaker};
-ghost use Rattle.overtaker.specs.Meaning.{held_asked, longest_answer, Numbered};
+ghost use Rattle.overtaker_search.specs.Meaning.{told_overtaker};
+ghost use Rattle.overtaker.specs.Lines.{lines_left};
+ghost use Rattle.overtaker.specs.Meaning.{held_asked, longest_answer};
 
-pub use crate::lines::search_board;
+pub use crate::lines::Lines;
 use crate::lines::well_formed;
+pub use crate::passes::search_board;
 use crate::{Asked, MOST_BYTES, Overtaker};
-use rules::{MOST_MEMBERS, is_numbered};
+use rules::{MOST_MEMBERS, Refusal, is_numbered};
+use script::parse_members;
 use script::steps::{print_field, print_pair};
-use script::{line_length, parse_members};
+use script_run::MOST_WORDS;
 use tables::steps::table_size;
 
-// The lines from a place on, for a board of n members.
-fn find_behind(
-    script: &[u8],
-    from: usize,
-    table: &mut [u32],
+// The lines behind the first, for a board of n members.
+#[tactic(auto, unfolding(model::specs::Overtaker::lines_overtaker), using(model::proofs::Cause::without_none))]
+pub fn find_behind(
+    lines: Lines,
+    table: &mut [u32; MOST_WORDS],
     n: u32,
-    member: u32,
-    ordinal: u32,
-) -> Overtaker
-    requires { (length script.now ≤ most_bytes) × (length table.old ≡ most_words) }
-    ensures { result ≡ held_overtaker (lines_overtaker n (lines_of (drop from script.now)) member ordinal) }
+    asked: Asked,
+) -> Result<Overtaker, Refusal>
+    requires { length (lines_left lines) ≤ most_bytes }
+    ensures { told_overtaker result ≡ lines_overtaker n (lines_left lines.entry) asked.member asked.ordinal }
 {
     if is_numbered(n, MOST_MEMBERS) {
         let size = table_size(n as usize);
-        return search_board(&mut table[..size], n, script, from, 0, member, ordinal);
+        return search_board(&mut table[..size], n, lines, None, asked);
     }
-    if well_formed(script, from) {
-        return Overtaker::refused(1);
+    if well_formed(lines) {
+        return Err(Refusal::Size);
     }
-    Overtaker::refused(17)
+    Err(Refusal::Line)
 }
 
 // The table is room to run the script in: nothing that it held is looked at.
-pub fn find_on(script: &[u8], table: &mut [u32], member: u32, ordinal: u32) -> Overtaker
-    requires { length table.old ≡ most_words }
-    ensures { result ≡ held_overtaker (overtaker script.now member ordinal) }
+#[tactic(auto, unfolding(model::specs::Overtaker::overtaker))]
+pub fn find_on(
+    script: &[u8],
+    table: &mut [u32; MOST_WORDS],
+    member: u32,
+    ordinal: u32,
+) -> Result<Overtaker, Refusal>
+    ensures { told_overtaker result ≡ overtaker script.now member ordinal }
 {
     if MOST_BYTES < script.len() {
-        return Overtaker::refused(17);
+        return Err(Refusal::Line);
     }
-    if script.len() == 0 {
-        return Overtaker::refused(17);
-    }
-    let end = line_length(script);
-    let members = parse_members(&script[..end]);
-    if !members.ok {
-        return Overtaker::refused(17);
-    }
-    find_behind(script, end + 1, table, members.value, member, ordinal)
+    let mut lines = Lines::of(script);
+    let first = lines.next().ok_or(Refusal::Line)?;
+    let n = parse_members(first).ok_or(Refusal::Line)?;
+    find_behind(lines, table, n, Asked { member, ordinal })
 }
 
 // The same of the operation that the arguments ask for.
-pub fn find_asked(script: &[u8], table: &mut [u32], asked: Asked) -> Overtaker
-    requires { length table.old ≡ most_words }
-    ensures { (a : Option Operation) → asked ≡ held_asked a → result ≡ held_overtaker (overtaker_for a script.now) }
+#[tactic(auto, unfolding(model::specs::Overtaker::overtaker_for, model::specs::Overtaker::for_asked))]
+pub fn find_asked(
+    script: &[u8],
+    table: &mut [u32; MOST_WORDS],
+    asked: Option<Asked>,
+) -> Result<Overtaker, Refusal>
+    ensures { (a : Option Operation) → asked ≡ held_asked a → told_overtaker result ≡ overtaker_for a script.now }
 {
-    if !asked.ok {
-        return Overtaker::refused(17);
-    }
+    let asked = asked.ok_or(Refusal::Line)?;
     find_on(script, table, asked.member, asked.ordinal)
 }
 
 // The line printed of an answer, at the front of the output.
-fn print_answer(out: &mut [u8], found: Overtaker) -> usize
+#[tactic(auto, unfolding(model::specs::Overtaker::printed_overtaker), using(crate::proofs::Answers::printed_front))]
+fn print_answer(out: &mut [u8], found: Result<Overtaker, Refusal>) -> usize
     requires { longest_answer ≤ length out.old }
     ensures upper_bound { result ≤ length out.new }
-    ensures out_after { (x : Answer) → Numbered x → found ≡ held_overtaker x → take result out.new ≡ printed_overtaker x }
+    ensures out_after { take result out.new ≡ printed_overtaker (told_overtaker found) }
 {
-    let number = found.number;
-    if number != 0 {
-        return print_field(out, 0, true, number, b'\n');
+    match found {
+        Ok(overtaker) => print_pair(out, 0, overtaker.member, overtaker.step),
+        Err(refusal) => print_field(out, 0, Some(refusal.number()), b'\n'),
     }
-    print_pair(out, 0, found.member, found.step)
 }
 
 // What the program prints of what it read.
-pub fn answer(script: &[u8], table: &mut [u32], asked: Asked, out: &mut [u8]) -> usize
-    requires { (length table.old ≡ most_words) × (longest_answer ≤ length out.old) }
+pub fn answer(
+    script: &[u8],
+    table: &mut [u32; MOST_WORDS],
+    asked: Option<Asked>,
+    out: &mut [u8],
+) -> usize
+    requires { longest_answer ≤ length out.old }
     ensures upper_bound { result ≤ length out.new }
     ensures out_after { (a : Option Operation) → asked ≡ held_asked a
         → take result out.new ≡ printed_overtaker (overtaker_for a script.now) }

@@ -56,7 +56,7 @@ unfolding with_byte
 with_byte_lem b [] n h = omega arith
 with_byte_lem b (line ∷ lines) n h = omega arith
 
-few_lines : (l : List ℕ) → length (lines_of l) ≤ length l
+pub few_lines : (l : List ℕ) → length (lines_of l) ≤ length l
 unfolding lines_of
 few_lines [] = omega arith
 few_lines (b ∷ l) = on (eqb b line_feed)
