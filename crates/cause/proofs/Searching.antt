@@ -1,15 +1,16 @@
 -- The search for the first step that cost an operation which somebody overtook: what the line at a place says of the answer. It is the
 -- member's own and is passed; or the run without it answers 31, and it is the step; or it is passed.
-use Prim.Native.Nat.{ℕ, zero, suc, ◌+◌, ◌-◌, ◌≤◌}
+use Prim.Native.Nat.{ℕ, zero, suc, ◌+◌, ◌-◌}
 use mathlib.Core.Path.{◌≡◌, refl, sym, ap, subst, ◌∙◌}
 use mathlib.Core.Bool.{Bool, true, false, cond, not, ◌&&◌}
 use mathlib.Core.List.{List, [], ◌∷◌}
 use mathlib.Core.Option.{Option, none, some}
+use Rattle.std.specs.Prelude.{Option as Held, Some, None}
 use native.Mathlib.Omega.{arith}
 use lib.Dec.{eqb}
-use lib.ListN.{length, take, drop}
+use lib.ListN.{drop}
 use lib.Seq.{drop-drop}
-use borrow.Author.Tests.{eq-eqb, ne_eqb}
+use borrow.Author.Tests.{ne_eqb, eqb-false}
 use Rattle.lists.specs.Functions.{inside}
 use Rattle.lists.proofs.Functions.{on, first, second, apart}
 use Rattle.model.specs.Kinds.{concur}
@@ -19,18 +20,26 @@ use Rattle.model.specs.History.{Submit, watched}
 use Rattle.model.specs.Positions.{step_at}
 use Rattle.model.specs.Table.{table_words}
 use Rattle.model.specs.TableCalls.{table_after, table_run}
-use Rattle.model.specs.Script.{Line, writes, reads, delivers, crashes, malformed, line_of, call_of, with_call, calls_of, caller}
-use Rattle.model.specs.Script.{lines_of}
-use Rattle.model.specs.Overtaker.{named, overtaker_in, is_call, well_formed, lines_overtaker}
+use Rattle.model.specs.Script.{Line, writes, reads, delivers, crashes, malformed, line_of, call_of, line_call, with_call, calls_of, caller}
+use Rattle.model.specs.Overtaker.{Overtaker, refuses, names, named, overtaker_in, is_call, well_formed, lines_overtaker}
 use Rattle.model.specs.Cause.{without, accepted_without, first_cause, cause_in, lines_cause}
 use Rattle.model.specs.CauseClaims.{OfAnother}
 use Rattle.model.proofs.AcceptedOps.{Told, accepts, aborts}
 use Rattle.runs.proofs.Causes.{formed_without, accepted_or_named}
-use Rattle.script.specs.Meaning.{held_line}
-use Rattle.overtaker_search.specs.Meaning.{held_overtaker}
+use Rattle.script.specs.Meaning.{held_line, line_member}
+use Rattle.script.specs.declared.Line.{Line as LineRead}
 use Rattle.overtaker.proofs.Answers.{lines-malformed, no_size}
-use Rattle.overtaker.proofs.NextLine.{NextLine, no_more}
-use Rattle.cause.specs.Meaning.{step_of, Named}
+use Rattle.cause.specs.Meaning.{Named}
+
+-- is a line that was read member i's?
+abbrev pub is_own : ℕ → Held LineRead → Bool
+is_own i None = false
+is_own i (Some line) = eqb (line_member line) i
+
+-- is nobody named?
+abbrev pub is_spared : Overtaker → Bool
+is_spared (refuses number) = true
+is_spared (names member at) = false
 
 -- Lists of calls.
 
@@ -57,14 +66,14 @@ rest_next calls number call rest e = sym (drop-drop 1 number calls) ∙ ap (drop
 record CallOf (l : Line) : Type 0 where
   call : Call
   made : call_of l ≡ some call
-  whose : (held_line l).member ≡ caller call
+  whose : (i : ℕ) → is_own i (held_line l) ≡ eqb (caller call) i
 
 call_of_lem : (l : Line) → is_call (call_of l) ≡ true → CallOf l
-unfolding is_call call_of held_line caller
-call_of_lem (writes m v) f = record { call = _; made = refl; whose = refl }
-call_of_lem (reads m r) f = record { call = _; made = refl; whose = refl }
-call_of_lem (delivers m) f = record { call = _; made = refl; whose = refl }
-call_of_lem (crashes m) f = record { call = _; made = refl; whose = refl }
+unfolding is_call call_of caller
+call_of_lem (writes m v) f = record { call = _; made = refl; whose = λ i. refl }
+call_of_lem (reads m r) f = record { call = _; made = refl; whose = λ i. refl }
+call_of_lem (delivers m) f = record { call = _; made = refl; whose = λ i. refl }
+call_of_lem (crashes m) f = record { call = _; made = refl; whose = λ i. refl }
 call_of_lem malformed f = absurd (apart f refl)
 
 -- Somebody overtook the operation: so the lines are all steps of a board.
@@ -102,50 +111,40 @@ module _ (n : ℕ) (lines : List (List ℕ)) (i k : ℕ) (overtaken : Named (lin
   overtaker-found : Overtaken (overtaker_in (watched calls (anew calls)) i k)
   overtaker-found = named-submit _ (subst Named (by-overtaker lines formed) overtaken)
 
-  -- the number answered without a line: 31 where the operation is accepted, else none
-  told-number : (accepted : Bool) (x : Option Submit) → Told accepted x → accepted ≡ eqb (held_overtaker (named x)).number 31
-  unfolding named held_overtaker
-  told-number accepted x (accepts a e) = rw (a, e)
-  told-number accepted x (aborts a z e) = rw (a, e)
+  -- the answer without a line: nobody is named where the operation is accepted
+  told-spared : (accepted : Bool) (x : Option Submit) → Told accepted x → accepted ≡ is_spared (named x)
+  unfolding named
+  told-spared accepted x (accepts a e) = rw (a, e)
+  told-spared accepted x (aborts a z e) = rw (a, e)
 
-  left-number : (s : ℕ) → OfAnother i (step_at calls (anew calls) s)
-      → test s ≡ eqb (held_overtaker (lines_overtaker n (without s lines) i k)).number 31
-  left-number s other =
+  left_spared : (s : ℕ) → OfAnother i (step_at calls (anew calls) s)
+      → test s ≡ is_spared (lines_overtaker n (without s lines) i k)
+  left_spared s other =
       let found = overtaker-found in
-      told-number (test s) _ (accepted_or_named n size lines formed i k found.submit found.is s other)
-      ∙ ap (λ x. eqb (held_overtaker x).number 31) (sym (by-overtaker (without s lines) (formed_without s lines formed)))
+      told-spared (test s) _ (accepted_or_named n size lines formed i k found.submit found.is s other)
+      ∙ ap is_spared (sym (by-overtaker (without s lines) (formed_without s lines formed)))
 
-  -- Of the script's lines, `number` are passed, and the others are at a place.
-  pub record Searching (script : List ℕ) (at number : ℕ) : Type 0 where
-    pub formed : well_formed (lines_of (drop at script)) ≡ true
-    pub rest : drop number calls ≡ calls_of (lines_of (drop at script))
-    pub answer : lines_cause (some n) lines i k ≡ first_cause i test (number + 1) (calls_of (lines_of (drop at script)))
+  -- Of the lines, `number` are passed, and the others are left.
+  pub record Searching (left : List (List ℕ)) (number : ℕ) : Type 0 where
+    formed : well_formed left ≡ true
+    rest : drop number calls ≡ calls_of left
+    answer : lines_cause (some n) lines i k ≡ first_cause i test (number + 1) (calls_of left)
 
-  pub searching_first : (script : List ℕ) (at : ℕ) → lines ≡ lines_of (drop at script) → Searching script at 0
+  pub searching_first : Searching lines 0
   unfolding lines_cause cause_in
-  searching_first script at e = record {
-    formed = subst (λ l. well_formed l ≡ true) e formed;
-    rest = ap calls_of e;
-    answer = ap (λ l. first_cause i test 1 (calls_of l)) e;
-  }
+  searching_first = record { formed = formed; rest = refl; answer = refl }
 
-  module _ (script : List ℕ) (at long : ℕ) (next : NextLine script at long) (number : ℕ) (s : Searching script at number) where
-    abbrev line : Line
-    line = line_of (take (at + long - at) (drop at script))
-
-    abbrev behind : List (List ℕ)
-    behind = lines_of (drop (at + long + 1) script)
-
-    all-formed : (is_call (call_of line) && well_formed behind) ≡ true
+  module _ (line : List ℕ) (behind : List (List ℕ)) (number : ℕ) (s : Searching (line ∷ behind) number) where
+    all-formed : (is_call (line_call line) && well_formed behind) ≡ true
     unfolding well_formed
-    all-formed = ap well_formed (sym next.lines) ∙ s.formed
+    all-formed = s.formed
 
-    here : CallOf line
-    here = call_of_lem line (first (is_call (call_of line)) (well_formed behind) all-formed)
+    here : CallOf (line_of line)
+    here = call_of_lem (line_of line) (first (is_call (line_call line)) (well_formed behind) all-formed)
 
-    calls-here : calls_of (lines_of (drop at script)) ≡ here.call ∷ calls_of behind
+    calls-here : calls_of (line ∷ behind) ≡ here.call ∷ calls_of behind
     unfolding calls_of with_call
-    calls-here = ap calls_of next.lines ∙ ap (λ c. with_call c (calls_of behind)) here.made
+    calls-here = ap (λ c. with_call c (calls_of behind)) here.made
 
     answer-here : lines_cause (some n) lines i k
         ≡ cond (not (eqb (caller here.call) i) && test (number + 1)) (some (number + 1))
@@ -153,36 +152,36 @@ module _ (n : ℕ) (lines : List (List ℕ)) (i k : ℕ) (overtaken : Named (lin
     unfolding first_cause
     answer-here = s.answer ∙ ap (first_cause i test (number + 1)) calls-here
 
-    another : ((held_line line).member ≡ i → ⊥) → OfAnother i (step_at calls (anew calls) (number + 1))
-    another d = another_next calls number (table_words n (opened n)) i here.call (calls_of behind) (s.rest ∙ calls-here)
-        (λ e. d (here.whose ∙ e))
+    abbrev own : Bool
+    own = is_own i (held_line (line_of line))
 
-    abbrev left_number : ℕ
-    left_number = (held_overtaker (lines_overtaker n (without (number + 1) lines) i k)).number
+    another : own ≡ false → OfAnother i (step_at calls (anew calls) (number + 1))
+    another d = another_next calls number (table_words n (opened n)) i here.call (calls_of behind) (s.rest ∙ calls-here)
+        (eqb-false (caller here.call) i (sym (here.whose i) ∙ d))
+
+    abbrev spared : Bool
+    spared = is_spared (lines_overtaker n (without (number + 1) lines) i k)
 
     -- the line is passed
-    passes : (not (eqb (caller here.call) i) && test (number + 1)) ≡ false → Searching script (at + long + 1) (number + 1)
+    passes : (not (eqb (caller here.call) i) && test (number + 1)) ≡ false → Searching behind (number + 1)
     passes e = record {
-      formed = second (is_call (call_of line)) (well_formed behind) all-formed;
+      formed = second (is_call (line_call line)) (well_formed behind) all-formed;
       rest = rest_next calls number here.call (calls_of behind) (s.rest ∙ calls-here);
       answer = rw e at answer-here;
     }
 
-    pub passes-own : (held_line line).member ≡ i → Searching script (at + long + 1) (number + 1)
-    passes-own e = passes (rw (eq-eqb (caller here.call) i (sym here.whose ∙ e)))
+    pub passes-own : own ≡ true → Searching behind (number + 1)
+    passes-own e = passes (rw (sym (here.whose i) ∙ e))
 
-    test-here : ((held_line line).member ≡ i → ⊥)
-        → (not (eqb (caller here.call) i) && test (number + 1)) ≡ eqb left_number 31
-    test-here d = rw (ne_eqb (caller here.call) i (λ e. d (here.whose ∙ e))) (left-number (number + 1) (another d))
+    test-here : own ≡ false → (not (eqb (caller here.call) i) && test (number + 1)) ≡ spared
+    test-here d = rw (sym (here.whose i) ∙ d) (left_spared (number + 1) (another d))
 
-    pub passes-other : ((held_line line).member ≡ i → ⊥) → (left_number ≡ 31 → ⊥) → Searching script (at + long + 1) (number + 1)
-    passes-other d e = passes (test-here d ∙ ne_eqb left_number 31 e)
+    pub passes-other : own ≡ false → spared ≡ false → Searching behind (number + 1)
+    passes-other d e = passes (test-here d ∙ e)
 
-    pub finds : ((held_line line).member ≡ i → ⊥) → left_number ≡ 31 → step_of (lines_cause (some n) lines i k) ≡ number + 1
-    unfolding step_of
-    finds d e = ap step_of answer-here ∙ rw (test-here d ∙ eq-eqb left_number 31 e)
+    pub finds : own ≡ false → spared ≡ true → lines_cause (some n) lines i k ≡ some (number + 1)
+    finds d e = answer-here ∙ rw (test-here d ∙ e)
 
-  pub finds_none : (script : List ℕ) (at number : ℕ) → Searching script at number → length script ≤ at
-      → step_of (lines_cause (some n) lines i k) ≡ 0
-  unfolding step_of first_cause calls_of
-  finds_none script at number s h = ap step_of (s.answer ∙ ap (λ l. first_cause i test (number + 1) (calls_of l)) (no_more script at h))
+  pub finds_none : (number : ℕ) → Searching [] number → lines_cause (some n) lines i k ≡ none
+  unfolding first_cause calls_of
+  finds_none number s = s.answer

@@ -1,94 +1,102 @@
 -- `search_steps` meets its contract: no line before a place is the step that is looked for, and the line there is it, or is passed.
-use borrow.Author.Rules.{rules}
-use Prim.Native.Nat.{◌+◌, ◌-◌}
-use mathlib.Core.Path.{◌≡◌, refl, sym, ap, ◌∙◌}
+use Rattle.std.proofs.Common.{rules, ◌≡◌, ◌∷◌, ◌+◌, length, ℕ}
+use borrow.Author.Tests.{tests}
+use mathlib.Core.Path.{sym, ap, subst, ◌∙◌}
+use mathlib.Core.List.{List}
 use native.Mathlib.Omega.{arith}
-use lib.ListN.{take, drop}
-use Rattle.model.specs.Script.{line_of, lines_of}
+use Rattle.std.specs.Iterator.Adapters.{enumerate_source, enumerate_count}
+use Rattle.model.specs.Overtaker.{lines_overtaker}
+use Rattle.model.specs.Cause.{without}
+use mathlib.Core.Option.{some}
+use Rattle.model.specs.Script.{line_of}
 use Rattle.script.specs.Meaning.{held_line}
-use Rattle.overtaker.proofs.NextLine.{NextLine, next_line}
-use Rattle.cause.proofs.Searching.{searching_first, passes-own, passes-other, finds, finds_none}
+use Rattle.overtaker.specs.Lines.{lines_left}
+use Rattle.overtaker_search.specs.Meaning.{told_overtaker}
+use Rattle.cause.proofs.Searching.{Searching, searching_first, passes-own, passes-other, finds, finds_none, is_own, is_spared}
+use Rattle.cause.proofs.lines.search_steps.Invariants.{Passed}
 use Rattle.cause.proofs.lines.search_steps.Goals as goal
-use Rattle.cause.proofs.lines.search_steps.Goals.{After-line_length, After-parse_line-line}
+use Rattle.cause.proofs.lines.search_steps.Goals.{In-Some, After-is_some_and, After-is_err}
 
--- What is known at each place, built on the place before.
+abbrev all : In-Some → List (List ℕ)
+all c = lines_left c.args.lines
 
-next : (c : After-line_length)
-    → NextLine c.args.script.now c.loop-at.at c.line_length.result
-next c =
-    next_line c.args.script.now c.loop-at.at c.loop-at-test.true c.line_length.result c.line_length.ensures
+abbrev behind : In-Some → List (List ℕ)
+behind c = lines_left (enumerate_source c.next.new.self)
 
--- the member that the line names
-line_member : (c : After-parse_line-line) → let at = c.loop-at.at in
-    c.parse_line-line.result.member
-    ≡ (held_line (line_of (take (at + c.line_length.result - at) (drop at c.args.script.now)))).member
-line_member c = ap (λ r. r.member) c.parse_line-line.ensures
+left : (c : In-Some) → lines_left (enumerate_source c.loop-passed.passed-iterator) ≡ c.in-Some.line.now ∷ behind c
+left c = search rules
 
--- The needs.
+number : (c : In-Some) → enumerate_count c.next.new.self ≡ enumerate_count c.loop-passed.passed-iterator + 1
+number c = search rules
 
-pub loop-at-init : goal.loop-at-init
-loop-at-init c =
+searching : (c : In-Some) → Searching c.args.n (all c) c.args.asked.member c.args.asked.ordinal c.loop-passed.invariant.overtaken
+    (c.in-Some.line.now ∷ behind c) (enumerate_count c.loop-passed.passed-iterator)
+searching c =
+    subst (λ l. Searching c.args.n (all c) c.args.asked.member c.args.asked.ordinal c.loop-passed.invariant.overtaken l
+    (enumerate_count c.loop-passed.passed-iterator)) (left c) c.loop-passed.invariant.searching
+
+passed : (c : In-Some) → Searching c.args.n (all c) c.args.asked.member c.args.asked.ordinal c.loop-passed.invariant.overtaken (behind c)
+    (enumerate_count c.loop-passed.passed-iterator + 1)
+    → Passed c.args.n c.args.asked.member c.args.asked.ordinal (all c) c.next.new.self
+passed c s = record {
+  overtaken = c.loop-passed.invariant.overtaken;
+  few = omega (arith, c.loop-passed.invariant.few, ap length (left c), number c);
+  searching = subst (Searching c.args.n (all c) c.args.asked.member c.args.asked.ordinal c.loop-passed.invariant.overtaken (behind c))
+      (sym (number c)) s;
+}
+
+own : (c : After-is_some_and) → c.is_some_and.result ≡ is_own c.args.asked.member (held_line (line_of c.in-Some.line.now))
+own c = let e = c.parse_line.ensures in search (rules, tests)
+
+place : (c : In-Some) → c.in-Some.passed + 1 ≡ enumerate_count c.loop-passed.passed-iterator + 1
+place c = search rules
+
+tells : (c : After-is_err) → c.is_err.result ≡ is_spared (told_overtaker c.search_board.result)
+tells c = search (rules, tests)
+
+-- nobody is named without this line, or somebody
+spared : (c : After-is_err) → let a = c.args in
+    c.is_err.result
+    ≡ is_spared (lines_overtaker a.n (without (enumerate_count c.loop-passed.passed-iterator + 1) (lines_left a.lines)) a.asked.member
+    a.asked.ordinal)
+spared c =
     let a = c.args in
-    record {
-      size = c.requires.within.0;
-      long = c.requires.within.1.0;
-      short = c.requires.within.1.1;
-      count = omega arith;
-      overtaken = c.requires.named;
-      searching = searching_first a.n (lines_of (drop a.from a.script.now)) a.member a.ordinal c.requires.named a.script.now
-          a.from refl;
-    }
+    tells c ∙ ap is_spared (c.search_board.ensures
+    ∙ ap (λ k. lines_overtaker a.n (without k (lines_left a.lines)) a.asked.member a.asked.ordinal)
+    (place (goal.at.After-is_err c).In-Some))
 
-pub overflow_add-end : goal.overflow_add-end
-overflow_add-end c = omega (arith, (next c).within, c.loop-at.invariant.short)
+pub loop-passed-init : goal.loop-passed-init
+loop-passed-init c =
+    let all = searching_first c.args.n (lines_left c.args.lines) c.args.asked.member c.args.asked.ordinal c.requires.named in
+    record { overtaken = c.requires.named; few = search rules; searching = search rules }
 
-pub slice_bounds-parse_line-end : goal.slice_bounds-parse_line-end
-slice_bounds-parse_line-end c = let n = next c in search rules
+pub loop-passed-preserved-then-is_some_and : goal.loop-passed-preserved-then-is_some_and
+loop-passed-preserved-then-is_some_and c =
+    let here = (goal.at.loop-passed-preserved-then-is_some_and c).In-Some in
+    let o = own (goal.at.loop-passed-preserved-then-is_some_and c).After-is_some_and in
+    passed here (passes-own c.args.n (all here) c.args.asked.member c.args.asked.ordinal c.loop-passed.invariant.overtaken
+    c.in-Some.line.now (behind here) (enumerate_count c.loop-passed.passed-iterator) (searching here) (sym o ∙ c.if-is_some_and.true))
 
-pub loop-at-preserved-then-line-member : goal.loop-at-preserved-then-line-member
-loop-at-preserved-then-line-member c =
-    let a = c.args in
-    let i = c.loop-at.invariant in
-    record {
-      size = i.size;
-      long = i.long;
-      short = i.short;
-      count = omega (arith, i.count);
-      overtaken = i.overtaken;
-      searching = passes-own a.n (lines_of (drop a.from a.script.now)) a.member a.ordinal i.overtaken a.script.now
-          c.loop-at.at c.line_length.result (next (goal.at.loop-at-preserved-then-line-member c).After-line_length)
-          c.loop-at.number i.searching
-          (sym (line_member (goal.at.loop-at-preserved-then-line-member c).After-parse_line-line) ∙ c.if-line-member.true);
-    }
+pub loop-passed-preserved : goal.loop-passed-preserved
+loop-passed-preserved c =
+    let here = (goal.at.loop-passed-preserved c).In-Some in
+    let o = own (goal.at.loop-passed-preserved c).After-is_some_and in
+    passed here (passes-other c.args.n (all here) c.args.asked.member c.args.asked.ordinal c.loop-passed.invariant.overtaken
+    c.in-Some.line.now (behind here) (enumerate_count c.loop-passed.passed-iterator) (searching here) (sym o ∙ c.if-is_some_and.false)
+    (sym (spared (goal.at.loop-passed-preserved c).After-is_err) ∙ c.if-is_err.false))
 
-pub returns-then-left-eq31 : goal.returns-then-left-eq31
-returns-then-left-eq31 c =
-    let a = c.args in
-    let i = c.loop-at.invariant in
-    sym (finds a.n (lines_of (drop a.from a.script.now)) a.member a.ordinal i.overtaken a.script.now
-    c.loop-at.at c.line_length.result (next (goal.at.returns-then-left-eq31 c).After-line_length) c.loop-at.number i.searching
-    (λ e. c.if-line-member.false (line_member (goal.at.returns-then-left-eq31 c).After-parse_line-line ∙ e))
-    (ap (λ r. r.number) (sym c.search_board-left.ensures) ∙ c.if-left-eq31.true))
-
-pub loop-at-preserved : goal.loop-at-preserved
-loop-at-preserved c =
-    let a = c.args in
-    let i = c.loop-at.invariant in
-    record {
-      size = i.size;
-      long = c.search_board-left.auto.table ∙ i.long;
-      short = i.short;
-      count = omega (arith, i.count);
-      overtaken = i.overtaken;
-      searching = passes-other a.n (lines_of (drop a.from a.script.now)) a.member a.ordinal i.overtaken a.script.now
-          c.loop-at.at c.line_length.result (next (goal.at.loop-at-preserved c).After-line_length) c.loop-at.number i.searching
-          (λ e. c.if-line-member.false (line_member (goal.at.loop-at-preserved c).After-parse_line-line ∙ e))
-          (λ e. c.if-left-eq31.false (ap (λ r. r.number) c.search_board-left.ensures ∙ e));
-    }
+pub returns-then-is_err : goal.returns-then-is_err
+returns-then-is_err c =
+    let here = (goal.at.returns-then-is_err c).In-Some in
+    let o = own (goal.at.returns-then-is_err c).After-is_some_and in
+    let found = finds c.args.n (all here) c.args.asked.member c.args.asked.ordinal c.loop-passed.invariant.overtaken
+    c.in-Some.line.now (behind here) (enumerate_count c.loop-passed.passed-iterator) (searching here) (sym o ∙ c.if-is_some_and.false)
+    (sym (spared (goal.at.returns-then-is_err c).After-is_err) ∙ c.if-is_err.true) in
+    sym (found ∙ ap some (sym (place here)))
 
 pub returns : goal.returns
 returns c =
-    let a = c.args in
-    let i = c.loop-at.invariant in
-    sym (finds_none a.n (lines_of (drop a.from a.script.now)) a.member a.ordinal i.overtaken a.script.now
-    c.loop-at.at c.loop-at.number i.searching c.loop-at-test.false)
+    sym (finds_none c.args.n (lines_left c.args.lines) c.args.asked.member c.args.asked.ordinal c.loop-passed.invariant.overtaken
+    (enumerate_count c.loop-passed.passed-iterator)
+    (subst (λ l. Searching c.args.n (lines_left c.args.lines) c.args.asked.member c.args.asked.ordinal c.loop-passed.invariant.overtaken l
+    (enumerate_count c.loop-passed.passed-iterator)) (search rules) c.loop-passed.invariant.searching))

@@ -1,26 +1,18 @@
-use Prim.Native.Nat.{ℕ, ◌-◌, ◌≤◌}
-use mathlib.Core.Path.{◌≡◌}
-use mathlib.Core.List.{List}
-use lib.ListN.{length, drop}
-use Rattle.lists.specs.Functions.{Within}
+-- The loop of `search_steps`: no line that is passed is the step that is looked for.
+use Rattle.std.proofs.Common.{ℕ, ◌+◌, ◌≤◌, List, length}
+use Rattle.std.specs.Iterator.Adapters.{enumerate_source, enumerate_count}
+use Rattle.std.specs.declared.iter.Enumerate.{Enumerate}
 use Rattle.model.specs.Overtaker.{most_bytes, lines_overtaker}
-use Rattle.model.specs.Script.{lines_of}
-use Rattle.model.specs.Table.{table_size}
+use Rattle.overtaker.specs.Lines.{lines_left}
 use Rattle.cause.specs.Meaning.{Named}
+use Rattle.overtaker.specs.declared.lines.Lines.{Lines}
 use Rattle.cause.proofs.Searching.{Searching}
 use Rattle.cause.proofs.lines.search_steps.Given as goal
 
--- the lines before a place are passed
-pub record Passed (script : List ℕ) (n i k at₀ : ℕ) (table : List ℕ) (at number : ℕ) : Type 0 where
-  pub size : Within 12 n
-  pub long : length table ≡ table_size n
-  pub short : length script ≤ most_bytes
-  pub count : number ≤ at
-  pub overtaken : Named (lines_overtaker n (lines_of (drop at₀ script)) i k)
-  pub searching : Searching n (lines_of (drop at₀ script)) i k overtaken script at number
+pub record Passed (n i k : ℕ) (lines : List (List ℕ)) (ahead : Enumerate Lines) : Type 0 where
+  pub overtaken : Named (lines_overtaker n lines i k)
+  pub few : enumerate_count ahead + length (lines_left (enumerate_source ahead)) ≤ most_bytes
+  pub searching : Searching n lines i k overtaken (lines_left (enumerate_source ahead)) (enumerate_count ahead)
 
-abbrev pub invariant-loop-at : goal.invariant-loop-at
-invariant-loop-at l = Passed l.script l.n l.member l.ordinal l.initial.at l.table l.at l.number
-
-abbrev pub decreases-loop-at : goal.decreases-loop-at
-decreases-loop-at l = length l.script - l.at
+abbrev pub invariant-loop-passed : goal.invariant-loop-passed
+invariant-loop-passed l = Passed l.n l.asked.member l.asked.ordinal (lines_left l.lines) l.passed-iterator
