@@ -16,7 +16,7 @@ use script::steps::{print_bytes, print_field};
 use script_run::MOST_WORDS;
 use tables::steps::table_size;
 
-// The table is room to run the script in: nothing that it held is looked at.
+// The table is room to run the script in: nothing that it held is looked at. The member and the ordinal are given as to `find_cause`.
 pub fn find_on(
     script: &[u8],
     table: &mut [u32; MOST_WORDS],

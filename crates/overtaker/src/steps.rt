@@ -38,7 +38,7 @@ pub fn find_behind(
     Err(Refusal::Line)
 }
 
-// The table is room to run the script in: nothing that it held is looked at.
+// The table is room to run the script in: nothing that it held is looked at. The member and the ordinal are given as to `find_overtaker`.
 #[tactic(auto, unfolding(model::specs::Overtaker::overtaker))]
 pub fn find_on(
     script: &[u8],

@@ -15,6 +15,7 @@ use script_run::Done;
 
 // The steps so far, and the slot of the operation that each member began last. Of the operation asked for: how many its member has begun,
 // whether its submit was taken and its commit was not, its slot, and the first submit on that slot since.
+// `follows` and `slot` stand apart as in the definition `Search`, of which the theorem `lines_answered` speaks.
 #[derive(Clone, Copy)]
 pub struct Search {
     pub steps: u32,
@@ -107,7 +108,7 @@ impl Search {
         }
     }
 
-    // A step that made a call.
+    // A step that made a call. The member and the ordinal stand apart as in `search_step`: `Asked` is of the crate above, with its reading.
     #[tactic(auto, unfolding(crate::specs::Search::search_step), using(rules::proofs::Refusals::not_done))]
     pub fn step(mut self, done: Done, member: u32, ordinal: u32) -> Search
         requires { (self.begun ≤ self.steps) × ((self.steps < 65536) × (Made (Some done))) }
