@@ -47,6 +47,7 @@ fn run(
 // The bytes of a reading, and room for the bill.
 const BUFFER: usize = 65536;
 
+// As in the board program, `main` has the buffers alone: what a program does with them is its own `run`.
 fn main(rt: HostRuntime) {
     let mut table = [0u32; MOST_WORDS];
     let mut kept = [0u8; MOST_KEPT];

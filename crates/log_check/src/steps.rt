@@ -11,7 +11,8 @@ use crate::rows::{
     written_after,
 };
 
-// Does row k hold, counted from 0, below those before it? `last` is the acceptance of the row above; `until` is by member, `written` by slot.
+// Does row k hold, counted from 0, below those before it? `last` is the acceptance of the row above; `until` is by member, `written` by
+// slot, so that they are no one array of structs.
 fn row_holds(
     log: &[u32],
     n: u32,

@@ -11,4 +11,6 @@ pub bounds-verdict-0 : goal.bounds-verdict-0
 bounds-verdict-0 c = omega (arith, (taken _ _ _ (sym c.in_default.ensures)).1)
 
 pub returns : goal.returns
-returns c = rw (c.from.ensures ∙ word_of c.rows_hold.result) (checked _ _ _ c.rows_hold.result (sym c.in_default.ensures) c.rows_hold.ensures)
+returns c =
+    rw (c.from.ensures ∙ word_of c.rows_hold.result)
+    (checked _ _ _ c.rows_hold.result (sym c.in_default.ensures) c.rows_hold.ensures)
