@@ -29,7 +29,9 @@ pub fn load_value(t: &[u32], at: usize) -> [u32; 8]
     ensures { value_of (words result) ≡ value_of (from (words t.now) at) }
 {
     let mut value = [0u32; 8];
-    value.copy_from_slice(&t[at..at + 8]);
+    for i in 0..8 {
+        value[i] = t[at + i];
+    }
     value
 }
 
@@ -86,7 +88,9 @@ pub fn store_value(t: &mut [u32], at: usize, value: [u32; 8])
     requires { at + 8 ≤ length t.old }
     ensures { words t.new ≡ pasted at 8 (words value) (words t.old) }
 {
-    t[at..at + 8].copy_from_slice(&value);
+    for i in 0..8 {
+        t[at + i] = value[i];
+    }
 }
 
 // Count i of a row of n stored; those past the first n are not.
