@@ -1,7 +1,7 @@
 -- `load_value` meets its contract: the words before the loop's place are those of the table from `at` on.
 use mathlib.Core.Path.{◌≡◌, refl, sym, ap, ◌∙◌}
 use native.Mathlib.Omega.{arith}
-use Prim.Native.Nat.{ℕ, ◌+◌}
+use Prim.Native.Nat.{ℕ}
 use lib.ListN.{length-set}
 use Rattle.lists.specs.Functions.{from, pasted}
 use Rattle.lists.specs.Parts.{words}
