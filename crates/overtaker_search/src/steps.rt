@@ -109,14 +109,14 @@ impl Search {
     }
 
     // A step that made a call. The member and the ordinal stand apart as in `search_step`: `Asked` is of the crate above, with its reading.
-    #[tactic(auto, unfolding(crate::specs::Search::search_step), using(rules::proofs::Refusals::not_done))]
+    #[tactic(auto, unfolding(crate::specs::Search::search_step))]
     pub fn step(mut self, done: Done, member: u32, ordinal: u32) -> Search
         requires { (self.begun ≤ self.steps) × ((self.steps < 65536) × (Made (Some done))) }
         ensures { (call : Call) (s : Seen) → Shows done call s
             → search_of result ≡ search_step member ordinal (search_of self) call s }
     {
         self.steps += 1;
-        if done.outcome.is_err() {
+        if done.answer() != 0 {
             return self;
         }
         self.call(done, member, ordinal)

@@ -4,9 +4,10 @@ ghost use Rattle.std.proofs.Math.Option.{none};
 ghost use Rattle.model.specs.Kinds.{concur};
 ghost use Rattle.model.specs.TableCalls.{table_answer, table_after, table_returns, phase_words};
 ghost use Rattle.rules.specs.Refusals.{answer};
-ghost use Rattle.member_block.specs.Results.{returned_of};
+ghost use Rattle.member_block.specs.Results.{returned_in, returned_of};
 ghost use Rattle.script_run.specs.Meaning.{call_by, Whole};
 
+use crate::Done;
 use board::{begin, crash, deliver};
 use rules::{READ, Refusal, WRITE, is_numbered};
 use script::Line;
@@ -37,6 +38,29 @@ pub fn make_call(table: &mut [u32], line: Line) -> Result<Option<[u32; 8]>, Refu
         Line::Read { member, slot } => { no_value(begin(table, member, slot, READ, [0; 8])) }
         Line::Deliver { member } => deliver(table, member),
         Line::Crash { member } => no_value(crash(table, member)),
+    }
+}
+
+// What a call did, in what is kept of a step: its outcome as a number and a value.
+pub fn call_done(line: Line, outcome: Result<Option<[u32; 8]>, Refusal>, phase: u32) -> Done
+    ensures line { result.line ≡ line }
+    ensures answer_value { result.answer ≡ answer outcome }
+    ensures returned_value { returned_in result.returned ≡ returned_of outcome }
+    ensures phase { result.phase ≡ phase }
+{
+    match outcome {
+        Ok(returned) => Done {
+            line,
+            answer: 0,
+            returned,
+            phase,
+        },
+        Err(refusal) => Done {
+            line,
+            answer: refusal.number(),
+            returned: None,
+            phase,
+        },
     }
 }
 
