@@ -41,7 +41,7 @@ pub fn make_call(table: &mut [u32], line: Line) -> Result<Option<[u32; 8]>, Refu
     }
 }
 
-// What a call did, in what is kept of a step: its outcome as a number and a value.
+// What is kept of a step: the outcome of its call as a number and a value.
 pub fn call_done(line: Line, outcome: Result<Option<[u32; 8]>, Refusal>, phase: u32) -> Done
     ensures line { result.line ≡ line }
     ensures answer_value { result.answer ≡ answer outcome }
