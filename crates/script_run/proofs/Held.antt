@@ -115,17 +115,16 @@ module _ (table line : List ℕ) where
   step_made read h = rw (some_call (line_of line) read h)
 
 -- What was seen at the call of a line, as it is held.
-pub call_shown : (table : List ℕ) (read : LineRead) (d : Done) (after : List ℕ) → d.line ≡ read →
-    let call = call_by read in
+pub call_shown : (table : List ℕ) (d : Done) (after : List ℕ) →
+    let call = call_by d.line in
     d.answer ≡ table_answer concur table call → returned_in d.returned ≡ table_returns concur table call
-    → after ≡ table_after concur table call → d.phase ≡ phase_words after (line_member read)
+    → after ≡ table_after concur table call → d.phase ≡ phase_words after (line_member d.line)
     → Shows d call (table_seen concur table call)
 unfolding table_seen
-call_shown table read d after e a r t p = record {
-  made = ap call_by (sym e);
+call_shown table d after a r t p = record {
+  made = refl;
   answer = sym a;
-  phase = ap (λ l. phase_words (table_after concur table (call_by read)) (line_member l)) e
-      ∙ ap (λ l. phase_words l (line_member read)) (sym t) ∙ sym p;
+  phase = ap (λ l. phase_words l (line_member d.line)) (sym t) ∙ sym p;
   returned = sym r;
 }
 

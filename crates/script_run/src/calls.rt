@@ -7,7 +7,6 @@ ghost use Rattle.rules.specs.Refusals.{answer};
 ghost use Rattle.member_block.specs.Results.{returned_in, returned_of};
 ghost use Rattle.script_run.specs.Meaning.{call_by, Whole};
 
-use crate::Done;
 use board::{begin, crash, deliver};
 use rules::{READ, Refusal, WRITE, is_numbered};
 use script::Line;
@@ -41,26 +40,14 @@ pub fn make_call(table: &mut [u32], line: Line) -> Result<Option<[u32; 8]>, Refu
     }
 }
 
-// What is kept of a step: the outcome of its call as a number and a value.
-pub fn call_done(line: Line, outcome: Result<Option<[u32; 8]>, Refusal>, phase: u32) -> Done
-    ensures line { result.line ≡ line }
-    ensures answer_value { result.answer ≡ answer outcome }
-    ensures returned_value { returned_in result.returned ≡ returned_of outcome }
-    ensures phase { result.phase ≡ phase }
+// What is kept of a call's outcome: the number that it answers, and the value where it returns one.
+pub fn outcome_parts(outcome: Result<Option<[u32; 8]>, Refusal>) -> (u32, Option<[u32; 8]>)
+    ensures number_value { result.0 ≡ answer outcome }
+    ensures result_value { returned_in result.1 ≡ returned_of outcome }
 {
     match outcome {
-        Ok(returned) => Done {
-            line,
-            answer: 0,
-            returned,
-            phase,
-        },
-        Err(refusal) => Done {
-            line,
-            answer: refusal.number(),
-            returned: None,
-            phase,
-        },
+        Ok(returned) => (0, returned),
+        Err(refusal) => (refusal.number(), None),
     }
 }
 

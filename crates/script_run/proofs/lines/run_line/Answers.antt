@@ -6,22 +6,27 @@ use Rattle.model.specs.Kinds.{concur}
 use Rattle.model.specs.TableCalls.{phase_words}
 use Rattle.model.specs.Script.{step_line}
 use Rattle.script_run.specs.Meaning.{call_by, StepHeld}
+use Rattle.script_run.specs.declared.Done.{Done}
 use Rattle.script_run.proofs.Held.{whole_after, step_malformed, step_made, call_shown}
 use Rattle.script_run.proofs.Made.{line_made}
 use Rattle.script_run.proofs.lines.run_line.Goals as goal
-use Rattle.script_run.proofs.lines.run_line.Goals.{After-call_done}
+use Rattle.script_run.proofs.lines.run_line.Goals.{After-phase_of-phase}
 
 -- What is known at the end.
 
-held : (c : After-call_done) → StepHeld (Some c.call_done.result) (step_line concur c.args.table.now c.args.line.now).happened
+abbrev done : After-phase_of-phase → Done
+done c =
+    let parts = c.outcome_parts-answer.result in
+    record { line = c.in_ok-line.line; answer = parts.0; returned = parts.1; phase = c.phase_of-phase.result }
+
+held : (c : After-phase_of-phase) → StepHeld (Some (done c)) (step_line concur c.args.table.now c.args.line.now).happened
 held c =
-    let read = c.in_ok-line.line in
     let m = c.make_call-outcome in
-    let d = c.call_done.ensures in
-    rw (step_made c.args.table.now c.args.line.now read c.in_ok-line.ensures)
-    (call_shown c.args.table.now read c.call_done.result m.new.table d.line (d.answer_value ∙ m.ensures.number_value)
-    (d.returned_value ∙ m.ensures.result_value) m.ensures.table_after
-    (d.phase ∙ c.phase_of-phase.ensures ∙ ap (phase_words m.new.table) c.member-member.ensures))
+    let parts = c.outcome_parts-answer.ensures in
+    rw (step_made c.args.table.now c.args.line.now c.in_ok-line.line c.in_ok-line.ensures)
+    (call_shown c.args.table.now (done c) m.new.table (parts.number_value ∙ m.ensures.number_value)
+    (parts.result_value ∙ m.ensures.result_value) m.ensures.table_after
+    (c.phase_of-phase.ensures ∙ ap (phase_words m.new.table) c.member-member.ensures))
 
 -- The goals.
 
@@ -46,4 +51,4 @@ pub returns-clause-step_held : goal.returns-clause-step_held
 returns-clause-step_held c = held c
 
 pub returns-clause-made : goal.returns-clause-made
-returns-clause-made c = line_made c.args.table.now c.args.line.now c.call_done.result c.requires (held c)
+returns-clause-made c = line_made c.args.table.now c.args.line.now (done c) c.requires (held c)
