@@ -3,7 +3,7 @@ use Prim.Native.Nat.{ℕ, ◌+◌}
 use native.Mathlib.Omega.{arith}
 use mir.Val.{bool_byte}
 use mathlib.Core.Path.{◌≡◌, refl, sym, ap, ◌∙◌}
-use mathlib.Core.Bool.{false}
+use mathlib.Core.Bool.{Bool, false, true, cond}
 use mathlib.Core.List.{List, ◌∷◌}
 use lib.Dec.{eqb}
 use lib.ListN.{length, set, replicate}
@@ -54,9 +54,14 @@ module _ (kind : Kind) (long due : ℕ) (l : List ℕ) (call : Call) where
       unfolding after_beside table_after
       done-beside = (call-number kind l exit call t e h ∙ same-call, call-table kind l exit call t e h ∙ rw same-call)
 
--- What is handed out.
+-- What is handed out: the flag's word, and of an answer the flag and the value.
+pub flagged : (given : Bool) (v : List ℕ) {first : ℕ} → first ≡ bool_byte given
+    → first ∷ listed value_size (value_of (words v)) ≡ cond given 1 0 ∷ listed value_size (value_of (words v))
+flagged false v e = rw e refl
+flagged true v e = rw e refl
+
 pub handed : (v : Returned (List ℕ))
-    → bool_byte (is_some v) ∷ listed value_size (value_of (words (unwrap_or v (replicate 8 0)))) ≡ returned_words (returned_in v)
+    → cond (is_some v) 1 0 ∷ listed value_size (value_of (words (unwrap_or v (replicate 8 0)))) ≡ returned_words (returned_in v)
 unfolding returned_words
 handed None = ap (λ v. 0 ∷ listed value_size v) zero_value_lem
 handed (Some w) = refl

@@ -11,7 +11,7 @@ ghost use Rattle.rules.specs.Refusals.{answer};
 ghost use Rattle.board.specs.Interface.{words_for, answer_beside, after_beside, returned_size, returned_after};
 
 use crate::kinds::begin_beside;
-use crate::steps::hand_out;
+use crate::steps::hand_returned;
 use crate::{auction, crash, open};
 use rules::{Kind, MOST_MEMBERS, Refusal, answered, is_numbered};
 use table_calls::steps::deliver_on;
@@ -87,7 +87,7 @@ fn deliver_beside(table: &mut [u32], member: u32, returned: &mut [u32]) -> Resul
         return Err(Refusal::Length);
     }
     let value = deliver_on(table, n, member)?;
-    hand_out(returned, value);
+    hand_returned(returned, value);
     Ok(())
 }
 

@@ -59,7 +59,9 @@ pub fn begin_by(
     begin_on(table, kind, n, member, slot, operation, value)
 }
 
-// The same with the value in a slice, whose length is judged in between.
+// The same with the value in a slice, whose length is judged in between. Always inlined: both boards' begins call it, at a small n for as
+// long as the begin itself takes.
+#[inline(always)]
 pub fn begin_beside(
     table: &mut [u32],
     kind: Kind,

@@ -1,7 +1,7 @@
 // The board program: a script from standard input, and what it prints to standard output.
 #![tactic(auto)]
 
-ghost use Rattle.std.specs.Prelude.{◌≤◌, ◌≡◌, ◌||◌, ℕ, List, eqb, length, IfOk};
+ghost use Rattle.std.specs.Prelude.{◌≤◌, ◌≡◌, ◌||◌, ◌&&◌, not, ltb, ℕ, List, eqb, length, IfOk};
 ghost use Rattle.model.specs.Kinds.{concur};
 ghost use Rattle.script.specs.Meaning.{longest_printed};
 ghost use Rattle.script_run.specs.Feeding.{most_kept, over, fed};
@@ -10,6 +10,13 @@ ghost use Rattle.script_run.specs.Meaning.{most_words, state_of, Ready};
 use script_run::steps::{feed, finish};
 use script_run::{MOST_KEPT, MOST_WORDS, Progress};
 use streams::{Reported, read_some, write_out};
+
+// How far the script has come, and whether there may be more to read.
+#[derive(Clone, Copy)]
+struct Turn {
+    progress: Progress,
+    more: bool,
+}
 
 // Feeds the bytes that were read, and writes what they print each time that the output is full.
 fn feed_all(
@@ -44,6 +51,29 @@ fn is_done(got: usize, progress: Progress) -> bool
     got == 0 || progress.is_over()
 }
 
+// Takes the bytes that a reading got. There may be more to read if it got any, and the script is not over.
+fn take_piece(
+    rt: &(impl Print + Eprint),
+    table: &mut [u32],
+    kept: &mut [u8],
+    p: Progress,
+    bytes: &[u8],
+    out: &mut [u8],
+) -> Result<Turn, Reported>
+    requires { (Ready p table.old kept.old) × (longest_printed ≤ length out.old) }
+    ensures ready { IfOk result (λ turn. Ready turn.progress table.new kept.new) }
+    ensures fed_all { IfOk result (λ turn. state_of turn.progress table.new kept.new
+        ≡ (fed concur (state_of p table.old kept.old) bytes.now).state) }
+    ensures more_value { IfOk result (λ turn. turn.more
+        ≡ (ltb 0 (length bytes.now) && not (over (state_of turn.progress table.new kept.new)))) }
+{
+    let progress = feed_all(rt, table, kept, p, bytes, out)?;
+    Ok(Turn {
+        progress,
+        more: !is_done(bytes.len(), progress),
+    })
+}
+
 // Reads until the input or the script is over. Where reading or writing fails, no more is printed.
 fn run(
     rt: &(impl Input + Print + Eprint),
@@ -57,8 +87,9 @@ fn run(
     let mut progress = Progress::START;
     'pieces: for _ in 0..u64::MAX {
         let got = read_some(rt, input)?;
-        progress = feed_all(rt, table, kept, progress, &input[..got], out)?;
-        if is_done(got, progress) {
+        let turn = take_piece(rt, table, kept, progress, &input[..got], out)?;
+        progress = turn.progress;
+        if !turn.more {
             break 'pieces;
         }
     }

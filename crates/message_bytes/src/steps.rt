@@ -128,8 +128,10 @@ fn read_matrix(s: &[u8], at: usize, n: usize) -> [Row; 12]
     matrix
 }
 
-// The record in the bytes from `at` on. The matrix is read first: its loop would part the loads of the others from their use.
+// The record in the bytes from `at` on. The matrix is read first: its loop would part the loads of the others from their use. Inline, for
+// speed: a record that a call hands back is set to zero before, and copied once more.
 #[tactic(auto, unfolding(model::specs::Messages::record_length))]
+#[inline(always)]
 pub fn read_record(s: &[u8], at: usize, n: usize) -> Record
     requires { (n ≤ 12) × (at + record_length n ≤ length s.now) }
     ensures { record_in result ≡ record_from n (from (words s.now) at) }

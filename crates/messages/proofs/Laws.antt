@@ -16,10 +16,14 @@ use Rattle.lists.proofs.Parts.{tabulate-at, replaced_by}
 use Rattle.model.specs.RecordWords.{record_words}
 use Rattle.model.specs.Records.{Rec}
 use Rattle.model.specs.Messages.{Message, submit, reply, commit, outcome, kind_of, length_of, record_byte, record_length}
-use Rattle.model.specs.Messages.{record_bytes, encode, fit_message, fit_given, written_length, write_number, written_to}
-use Rattle.laws.proofs.Messages.{heading, by_kind, length_of_most, length-record_bytes, length-encode, writable_of, readable}
+use Rattle.model.specs.Messages.{record_bytes, encode, fit_message, fit_given, written_length, write_number, written_to, read_number}
+use Rattle.model.specs.Messages.{frame_length, submit_length, outcome_length, record_at}
+use Rattle.laws.proofs.Messages.{heading, by_kind, length_of_most, length-record_bytes, length-encode, writable_of, readable, sized}
 use Rattle.laws.proofs.Messages.{from_submit, from_reply, from_commit, from_outcome}
 use Rattle.rules.proofs.Refusals.{refuses}
+use Rattle.message_numbers.specs.Kinds.{kind_number}
+use Rattle.message_numbers.specs.declared.kind.MessageKind.{MessageKind}
+use Rattle.message_numbers.specs.declared.kind.MessageKind.TheVariants.{Submit, Reply, Commit, Outcome}
 use Rattle.messages.specs.Meaning.{Fields, Fronted, message_of}
 
 -- Runs of bytes one after the other, and a list whose front was written.
@@ -144,11 +148,51 @@ taken n f l h =
           replaced_by l t 0 (encode n m) (omega arith) same p ∙ sym (ap (λ m. written_to n m l) e);
     }
 
--- The laws that the functions are proved by: the message of each kind, and of none; what refuses it; and what is written.
+-- Bytes that the reader takes, by their kind: they are as long as it asks.
+
+sized_as : (n : ℕ) (l : List ℕ) (read kind : MessageKind) → 0 ≡ read_number n l → kind_number read ≡ words l 3 → read ≡ kind
+    → length l ≡ 2 + length_of (kind_number kind) n
+sized_as n l read kind h k e = sized n l (kind_number kind) (readable n l (sym h)).whole (sym k ∙ ap kind_number e)
+
+pub sized_submit : (n : ℕ) (l : List ℕ) (read : MessageKind) → 0 ≡ read_number n l → kind_number read ≡ words l 3 → read ≡ Submit
+    → frame_length + submit_length ≤ length l
+unfolding length_of
+sized_submit n l read h k e = omega (arith, sized_as n l read Submit h k e)
+
+pub sized_reply : (n : ℕ) (l : List ℕ) (read : MessageKind) → 0 ≡ read_number n l → kind_number read ≡ words l 3 → read ≡ Reply
+    → (n ≤ 12) × (record_at + record_length n + record_length n ≤ length l)
+unfolding length_of record_length
+sized_reply n l read h k e = ((readable n l (sym h)).high, omega (arith, sized_as n l read Reply h k e))
+
+pub sized_commit : (n : ℕ) (l : List ℕ) (read : MessageKind) → 0 ≡ read_number n l → kind_number read ≡ words l 3 → read ≡ Commit
+    → (n ≤ 12) × (record_at + record_length n ≤ length l)
+unfolding length_of record_length
+sized_commit n l read h k e = ((readable n l (sym h)).high, omega (arith, sized_as n l read Commit h k e))
+
+pub sized_outcome : (n : ℕ) (l : List ℕ) (read : MessageKind) → 0 ≡ read_number n l → kind_number read ≡ words l 3 → read ≡ Outcome
+    → frame_length + outcome_length ≤ length l
+unfolding length_of
+sized_outcome n l read h k e = omega (arith, sized_as n l read Outcome h k e)
+
+-- What the writer refuses before it looks at a field: a board of no such size, and a kind that is none.
+
+pub refused_size : (n : ℕ) (f : Fields) (room : ℕ) → inside 12 n ≡ false → write_number n (message_of f) room ≡ 1
+unfolding write_number
+refused_size n f room h = rw h
+
+pub refused_kind : (n : ℕ) (f : Fields) (room : ℕ) → inside 12 n ≡ true → inside 4 f.kind ≡ false
+    → write_number n (message_of f) room ≡ 15
+unfolding write_number fit_given
+refused_kind n f room h k = rw (given_unknown f k, h)
+
+-- The laws that the functions are proved by: the message of each kind, and of none; what refuses it, and what is refused before its fields
+-- are looked at; and what is written.
 pub ruleset given = (given_submit, given_reply, given_commit, given_outcome, given_unknown)
 
-pub ruleset judging = (given_unknown, given_kind, given_length, length_of_most, inside_low, inside_high)
+pub ruleset judging = (given_unknown, given_kind, given_length, length_of_most, inside_in, inside_low, inside_high)
 
-pub ruleset reading = (readable, from_submit, from_reply, from_commit, from_outcome)
+pub ruleset refusing = (refused_size, refused_kind, inside_low, inside_high)
+
+pub ruleset reading = (readable, from_submit, from_reply, from_commit, from_outcome, sized_submit, sized_reply, sized_commit, sized_outcome)
 
 pub ruleset writing = (taken, length_of_most, refuses)

@@ -7,14 +7,11 @@ ghost use Rattle.model.specs.Messages.{read_number};
 ghost use Rattle.rules.specs.Refusals.{answer};
 ghost use Rattle.messages.specs.Meaning.{fields_in, fields_of, fields_read, number_written, length_written, output_after};
 
-use crate::numbers::check_fields;
-use crate::reader::read_message;
+use crate::reader::{read_commit, read_outcome, read_reply, read_submit};
 use crate::writer::write_message;
-use message_bytes::steps::FRAME_LENGTH;
-use message_numbers::check_message;
-use message_numbers::steps::length_of;
+use message_numbers::{MessageKind, check_message};
 use records::Record;
-use rules::Refusal;
+use rules::{MOST_MEMBERS, Refusal, is_numbered};
 
 mod numbers;
 mod reader;
@@ -55,26 +52,37 @@ impl Message {
 }
 
 // The reader: the message in these bytes on a board of n.
-#[tactic(auto, unfolding(model::specs::Messages::decode))]
+#[tactic(auto, using(crate::proofs::Laws::reading), unfolding(model::specs::Messages::decode))]
 pub fn read(bytes: &[u8], n: u32) -> Result<Message, Refusal>
     ensures number_value { answer result ≡ read_number n bytes.now }
     ensures fields_value { IfOk result (λ message. fields_in message ≡ fields_read n bytes.now) }
 {
     let kind = check_message(bytes, n)?;
-    Ok(read_message(kind, bytes, n as usize))
+    // Each arm makes its own `Ok`, for speed: behind them the message would be copied once more into it.
+    match kind {
+        MessageKind::Submit => Ok(read_submit(bytes)),
+        MessageKind::Reply => Ok(read_reply(bytes, n as usize)),
+        MessageKind::Commit => Ok(read_commit(bytes, n as usize)),
+        MessageKind::Outcome => Ok(read_outcome(bytes)),
+    }
 }
 
 // The writer: the message's bytes to the front of the output, the others left as they were, and how many bytes they are; nothing where it
 // is refused.
-#[tactic(auto, using(crate::proofs::Laws::writing), unfolding(model::specs::Messages::writable, model::specs::Messages::written_to))]
+#[tactic(auto, using(crate::proofs::Laws::refusing), unfolding(model::specs::Messages::writable, model::specs::Messages::written_to))]
 pub fn write(message: Message, n: u32, out: &mut [u8]) -> Result<usize, Refusal>
     ensures number_value { answer result ≡ number_written n (fields_in message) out.old }
     ensures length_value { IfOk result (λ length. length ≡ length_written n (fields_in message) out.old) }
     ensures out_after { out.new ≡ output_after n (fields_in message) out.old }
 {
-    let kind = check_fields(message, n, out.len())?;
-    write_message(kind, message, n, out);
-    Ok(FRAME_LENGTH + length_of(kind, n))
+    if !is_numbered(n, MOST_MEMBERS) {
+        return Err(Refusal::Size);
+    }
+    // A kind that is none counts as a field.
+    let Ok(kind) = MessageKind::try_from(message.kind) else {
+        return Err(Refusal::Field);
+    };
+    write_message(kind, message, n, out)
 }
 
 // 0 if the reader would take these bytes on a board of n, or the number that it would refuse them with. For C: include/concur.h.

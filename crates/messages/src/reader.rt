@@ -1,10 +1,9 @@
-// The reader's step by the kind, for bytes that no number refuses.
+// The reader's steps, one for each kind, for bytes that no number refuses.
 ghost use Rattle.std.specs.Prelude.{◌≡◌, ◌+◌, ◌≤◌, length};
 ghost use Rattle.lists.specs.Functions.{from};
 ghost use Rattle.lists.specs.Parts.{words};
 ghost use Rattle.model.specs.Messages.{submit, reply, commit, outcome, frame_length, record_length, submit_length, outcome_length};
-ghost use Rattle.model.specs.Messages.{fields_at, record_at, number_of, record_from, message_from, read_number};
-ghost use Rattle.message_numbers.specs.Kinds.{kind_number};
+ghost use Rattle.model.specs.Messages.{fields_at, record_at, number_of, record_from};
 ghost use Rattle.messages.specs.Meaning.{Holds};
 
 use crate::Message;
@@ -12,7 +11,7 @@ use message_bytes::steps::{FIELDS_AT, RECORD_AT, read_number, read_record, secon
 use message_numbers::MessageKind;
 
 #[tactic(auto, unfolding(crate::specs::Meaning::fields_of))]
-fn read_submit(s: &[u8]) -> Message
+pub fn read_submit(s: &[u8]) -> Message
     requires { frame_length + submit_length ≤ length s.now }
     ensures { let b = words s.now in
         Holds result (submit (b fields_at) (b (fields_at + 1)) (b (fields_at + 2)) (number_of (from b (fields_at + 3)))) }
@@ -27,8 +26,10 @@ fn read_submit(s: &[u8]) -> Message
     }
 }
 
+// The two with records stand apart, for speed: in one body with the short ones, a message of any kind is copied once more, or set to zero.
 #[tactic(auto, unfolding(crate::specs::Meaning::fields_of))]
-fn read_reply(s: &[u8], n: usize) -> Message
+#[inline(never)]
+pub fn read_reply(s: &[u8], n: usize) -> Message
     requires { (n ≤ 12) × (record_at + record_length n + record_length n ≤ length s.now) }
     ensures { let b = words s.now in
         Holds result (reply (record_from n (from b record_at)) (record_from n (from b (record_at + record_length n)))) }
@@ -42,7 +43,8 @@ fn read_reply(s: &[u8], n: usize) -> Message
 }
 
 #[tactic(auto, unfolding(crate::specs::Meaning::fields_of))]
-fn read_commit(s: &[u8], n: usize) -> Message
+#[inline(never)]
+pub fn read_commit(s: &[u8], n: usize) -> Message
     requires { (n ≤ 12) × (record_at + record_length n ≤ length s.now) }
     ensures { Holds result (commit (record_from n (from (words s.now) record_at))) }
 {
@@ -55,7 +57,7 @@ fn read_commit(s: &[u8], n: usize) -> Message
 }
 
 #[tactic(auto, unfolding(crate::specs::Meaning::fields_of))]
-fn read_outcome(s: &[u8]) -> Message
+pub fn read_outcome(s: &[u8]) -> Message
     requires { frame_length + outcome_length ≤ length s.now }
     ensures { Holds result (outcome (words s.now fields_at)) }
 {
@@ -63,18 +65,5 @@ fn read_outcome(s: &[u8]) -> Message
         kind: MessageKind::Outcome as u32,
         outcome: wide(s[FIELDS_AT]),
         ..Message::none()
-    }
-}
-
-#[tactic(auto, using(crate::proofs::Laws::reading), unfolding(model::specs::Messages::length_of, model::specs::Messages::record_length))]
-pub fn read_message(kind: MessageKind, s: &[u8], n: usize) -> Message
-    requires { (read_number n s.now ≡ 0) × (kind_number kind ≡ words s.now 3) }
-    ensures { Holds result (message_from n (words s.now)) }
-{
-    match kind {
-        MessageKind::Submit => read_submit(s),
-        MessageKind::Reply => read_reply(s, n),
-        MessageKind::Commit => read_commit(s, n),
-        MessageKind::Outcome => read_outcome(s),
     }
 }

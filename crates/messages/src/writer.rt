@@ -1,17 +1,20 @@
-// The writer's step by the kind, for a message that no number refuses.
-ghost use Rattle.std.specs.Prelude.{◌≡◌, [], ◌∷◌, ◌+◌, ◌/◌, ◌%◌, ◌≤◌, ◌<◌, length};
+// The writer's step by the kind.
+ghost use Rattle.std.specs.Prelude.{◌≡◌, [], ◌∷◌, ◌+◌, ◌/◌, ◌%◌, ◌≤◌, ◌<◌, length, IfOk};
 ghost use Rattle.model.specs.Messages.{reply, commit, frame_length, record_length, submit_length, outcome_length, record_at};
-ghost use Rattle.model.specs.Messages.{number_bytes, encode, write_number, written_to};
+ghost use Rattle.model.specs.Messages.{number_bytes, encode};
 ghost use Rattle.records.specs.Meaning.{record_in};
 ghost use Rattle.message_bytes.specs.Needs.{InBytes};
 ghost use Rattle.message_numbers.specs.Kinds.{kind_number};
-ghost use Rattle.messages.specs.Meaning.{Fronted, fields_in, message_of};
+ghost use Rattle.rules.specs.Refusals.{answer};
+ghost use Rattle.messages.specs.Meaning.{Fronted, fields_in, number_written, length_written, output_after};
 
 use crate::Message;
+use crate::numbers::check_fields;
 use message_bytes::steps::{FIELDS_AT, RECORD_AT, second_at, write_number, write_record};
 use message_numbers::MessageKind;
 use message_numbers::steps::{OUTCOME_LENGTH, SUBMIT_LENGTH, length_of};
 use records::Record;
+use rules::Refusal;
 
 // The first five bytes: length, version, kind, and what stands first in the kind's fields.
 fn write_heading(t: &mut [u8], size: usize, kind: u8, fifth: u8)
@@ -63,20 +66,46 @@ fn write_outcome(t: &mut [u8], outcome: u32)
     write_heading(t, OUTCOME_LENGTH, MessageKind::Outcome as u8, outcome as u8);
 }
 
-pub fn write_message(kind: MessageKind, message: Message, n: u32, t: &mut [u8])
-    requires { (write_number n (message_of (fields_in message)) (length t.old) ≡ 0) × (kind_number kind ≡ message.kind) }
-    ensures { t.new ≡ written_to n (message_of (fields_in message)) t.old }
+// The message to the front of the output, and how many bytes it is, or what refuses it. Each arm judges its kind itself, for speed: behind
+// one check of all four, the parts of every kind are fetched for each.
+#[tactic(auto, using(crate::proofs::Laws::writing), unfolding(model::specs::Messages::writable, model::specs::Messages::written_to))]
+pub fn write_message(
+    kind: MessageKind,
+    message: Message,
+    n: u32,
+    t: &mut [u8],
+) -> Result<usize, Refusal>
+    requires { (1 ≤ n) × ((n ≤ 12) × (kind_number kind ≡ message.kind)) }
+    ensures number_value { answer result ≡ number_written n (fields_in message) t.old }
+    ensures length_value { IfOk result (λ length. length ≡ length_written n (fields_in message) t.old) }
+    ensures out_after { t.new ≡ output_after n (fields_in message) t.old }
 {
     match kind {
-        MessageKind::Submit => write_submit(
-            t,
-            message.member,
-            message.slot,
-            message.operation,
-            message.count,
-        ),
-        MessageKind::Reply => write_reply(t, n, message.newest, message.stored),
-        MessageKind::Commit => write_commit(t, n, message.newest),
-        MessageKind::Outcome => write_outcome(t, message.outcome),
+        MessageKind::Submit => {
+            let length = check_fields(kind, message, n, t.len())?;
+            write_submit(
+                t,
+                message.member,
+                message.slot,
+                message.operation,
+                message.count,
+            );
+            Ok(length)
+        }
+        MessageKind::Reply => {
+            let length = check_fields(kind, message, n, t.len())?;
+            write_reply(t, n, message.newest, message.stored);
+            Ok(length)
+        }
+        MessageKind::Commit => {
+            let length = check_fields(kind, message, n, t.len())?;
+            write_commit(t, n, message.newest);
+            Ok(length)
+        }
+        MessageKind::Outcome => {
+            let length = check_fields(kind, message, n, t.len())?;
+            write_outcome(t, message.outcome);
+            Ok(length)
+        }
     }
 }

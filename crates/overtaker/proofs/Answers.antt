@@ -1,6 +1,7 @@
 -- The definition's answer where the lines are not those of a board's steps; and what is printed of an answer.
 use Rattle.std.proofs.Common.{◌≡◌, ◌≤◌, ◌<◌, ℕ, List, [], ◌∷◌, ◌++◌, length, take, true, false}
-use Rattle.std.specs.Prelude.{Some, None}
+use Rattle.std.specs.Prelude.{Some, None, Result, Ok, Err}
+use Rattle.std.specs.Result.{MatchResult}
 use mathlib.Core.Option.{some}
 use mathlib.Core.Path.{◌∙◌}
 use borrow.Author.Tests.{le-ltb}
@@ -13,6 +14,12 @@ use Rattle.script.specs.Meaning.{held_number, Printed}
 use Rattle.script.proofs.Reading.{held_none, held_some}
 use Rattle.script.proofs.Printing.{field_short}
 use Rattle.script_run.proofs.Held.{wrote, wrote_front}
+use Rattle.rules.specs.declared.refusal.Refusal.{Refusal}
+use Rattle.rules.specs.declared.refusal.Refusal.TheVariants.{NotOvertaken}
+use Rattle.overtaker_search.specs.declared.Overtaker.{Overtaker}
+use Rattle.overtaker_search.specs.Meaning.{told_overtaker}
+use Rattle.overtaker_search.specs.Search.{told_first}
+use Rattle.overtaker_search.proofs.LineTaken.{NamedOr31}
 
 module _ (i k n : ℕ) (lines : List (List ℕ)) where
   pub lines-malformed : well_formed lines ≡ false → lines_overtaker n lines i k ≡ refuses 17
@@ -41,6 +48,12 @@ module _ (input : List ℕ) (i k : ℕ) (short : length input ≤ most_bytes) wh
     pub first_named : (n : ℕ) → held_number (first_of first) ≡ Some n → overtaker input i k ≡ lines_overtaker n behind i k
     unfolding members_overtaker
     first_named n e = by_first ∙ rw (held_some (first_of first) n e)
+
+-- an answer by number whose number is 31, as a refusal
+pub as_refused : (r : Result Overtaker ℕ) (q : Result Overtaker Refusal) → NamedOr31 (told_first r)
+    → MatchResult r (λ o. q ≡ Ok o) (λ number. q ≡ Err NotOvertaken) → told_overtaker q ≡ told_first r
+as_refused (Ok o) q n h = rw h
+as_refused (Err number) q n h = rw (h, n)
 
 -- the text of a member and a step
 pub pair_short : (x y : ℕ) → x < 4294967296 → y < 4294967296 → length (field (some x) space ++ field (some y) line_feed) ≤ 22

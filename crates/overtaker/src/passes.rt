@@ -36,7 +36,8 @@ pub fn search_lines(
         let done = run_line(table, line).ok_or(Refusal::Line)?;
         search = search.step(done, asked.member, asked.ordinal);
     }
-    search.answer()
+    // From the start on, a pass has no other number.
+    search.answer().map_err(|_| Refusal::NotOvertaken)
 }
 
 // The same on a board of n members that is opened in the table.

@@ -11,12 +11,12 @@ use Rattle.lists.proofs.Functions.{on, split}
 use Rattle.model.specs.Kinds.{concur}
 use Rattle.model.specs.Runs.{Call, begin, deliver, crash, Seen, Step, step}
 use Rattle.model.specs.Script.{step_line}
-use Rattle.model.specs.Overtaker.{Overtaker, refuses}
+use Rattle.model.specs.Overtaker.{Overtaker, refuses, names}
 use Rattle.script_run.specs.Meaning.{Shows, StepHeld}
 use Rattle.script_run.specs.declared.Done.{Done}
-use Rattle.overtaker_search.specs.Search.{Search, search_of, search_begin, search_submit}
+use Rattle.overtaker_search.specs.Search.{Search, told_first, search_of, or_first, search_begin, search_submit}
 use Rattle.overtaker_search.specs.Search.{search_verdict, search_deliver, search_call, search_next, search_step}
-use Rattle.overtaker_search.specs.Search.{unless_malformed, lines_searched}
+use Rattle.overtaker_search.specs.Search.{search_answer, unless_malformed, lines_searched}
 use Rattle.overtaker_search.specs.declared.steps.Search.{Search as SearchStruct}
 
 -- A step counts itself, and one begin at most.
@@ -62,6 +62,49 @@ module _ (i k : ℕ) (s : Search) where
   unfolding search_step
   step-counted call seen = split (Counted s) (eqb seen.answer 0) (λ e. call-counted call seen) (λ e. next-counted)
 
+-- What is remembered is a submit that is named, or 31: from the start on nothing else.
+
+abbrev pub NamedOr31 : Overtaker → Type 0
+NamedOr31 (names m at) = Unit {0}
+NamedOr31 (refuses number) = number ≡ 31
+
+or-named : (first : Overtaker) (m at : ℕ) → NamedOr31 (or_first first (names m at))
+or-named (names j place) m at = tt
+or-named (refuses number) m at = tt
+
+module _ (i k : ℕ) (s : Search) (h : NamedOr31 s.first) where
+  submit-named : (j : ℕ) → NamedOr31 (search_submit i k s j).first
+  unfolding search_submit
+  submit-named j = split (λ (r : Search). NamedOr31 r.first) (eqb j i)
+      (λ e. h)
+      (λ e. split NamedOr31 (s.follows && eqb (s.slots j) s.slot) (λ e. or-named s.first j s.steps) (λ e. h))
+
+  verdict-named : (j : ℕ) (a : Bool) → NamedOr31 (search_verdict i s j a).first
+  unfolding search_verdict
+  verdict-named j a = split (λ (r : Search). NamedOr31 r.first) (eqb j i && s.follows)
+      (λ e. split NamedOr31 a (λ e. refl) (λ e. h))
+      (λ e. h)
+
+  call-named : (call : Call) (seen : Seen) → NamedOr31 (search_call i k s call seen).first
+  unfolding search_call search_begin search_deliver
+  call-named (begin j r t v) seen = h
+  call-named (deliver j) seen = split (λ (r : Search). NamedOr31 r.first) (eqb (seen.phases j) 2)
+      (λ e. submit-named j)
+      (λ e. split (λ (r : Search). NamedOr31 r.first) (eqb (seen.phases j) 4 || eqb (seen.phases j) 5)
+      (λ e. verdict-named j (eqb (seen.phases j) 4))
+      (λ e. h))
+  call-named (crash j) seen = h
+
+step-named : (i k : ℕ) (s : Search) → NamedOr31 s.first → (call : Call) (seen : Seen) → NamedOr31 (search_step i k s call seen).first
+unfolding search_step
+step-named i k s h call seen = split (λ (r : Search). NamedOr31 r.first) (eqb seen.answer 0)
+    (λ e. call-named i k (search_next s) h call seen)
+    (λ e. h)
+
+pub answer_named : (s : Search) → NamedOr31 s.first → NamedOr31 (search_answer s)
+unfolding search_answer
+answer_named s h = split NamedOr31 s.follows (λ e. refl) (λ e. h)
+
 -- The next line.
 
 some_shown : (P : Type 0) (d : Done) (x : Option Step) → StepHeld (Some d) x → ((call : Call) (s : Seen) → Shows d call s → P) → P
@@ -74,6 +117,12 @@ pub held_counts : (i k : ℕ) (s r : SearchStruct) (d : Done) (x : Option Step) 
 held_counts i k s r d x h e = some_shown _ d x h
     (λ call seen shows. let c = subst (Counted (search_of s)) (sym (e call seen shows)) (step-counted i k (search_of s) call seen) in
     (c.steps, c.begun))
+
+pub held_named : (i k : ℕ) (s r : SearchStruct) (d : Done) (x : Option Step) → StepHeld (Some d) x
+    → ((call : Call) (seen : Seen) → Shows d call seen → search_of r ≡ search_step i k (search_of s) call seen)
+    → NamedOr31 (told_first s.first) → NamedOr31 (told_first r.first)
+held_named i k s r d x h e n = some_shown _ d x h
+    (λ call seen shows. subst (λ (t : Search). NamedOr31 t.first) (sym (e call seen shows)) (step-named i k (search_of s) n call seen))
 
 malformed_ends : (x : Option Step) (next : Call → Seen → Overtaker) → StepHeld None x → unless_malformed x next ≡ refuses 17
 unfolding unless_malformed

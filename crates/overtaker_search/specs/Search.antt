@@ -1,7 +1,7 @@
 -- One pass over the steps of a run: what is remembered of the operation asked for, member i's k-th, and what each step does to that.
 -- That it ends with the answer which the watcher's lists give is a theorem (proofs/Searched.antt).
 use Rattle.std.specs.Prelude.{ℕ, ◌+◌, Bool, false, cond, ◌&&◌, ◌||◌, List, [], ◌∷◌, eqb}
-use Rattle.std.specs.Prelude.{Option as Held, Some, None}
+use Rattle.std.specs.Prelude.{Result, Ok, Err}
 use Rattle.std.proofs.Math.Option.{Option, none, some}
 use Rattle.lists.specs.Functions.{put, numbered}
 use Rattle.lists.specs.Parts.{words}
@@ -22,11 +22,11 @@ pub record Search : Type 0 where
   pub slot : ℕ
   pub first : Overtaker
 
--- as the code holds it: no submit is 31
+-- as the code holds it
 
-abbrev pub told_first : Held OvertakerStruct → Overtaker
-told_first None = refuses 31
-told_first (Some o) = names o.member o.step
+abbrev pub told_first : Result OvertakerStruct ℕ → Overtaker
+told_first (Ok o) = names o.member o.step
+told_first (Err number) = refuses number
 
 abbrev pub search_of : SearchStruct → Search
 search_of s = record {

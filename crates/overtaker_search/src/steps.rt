@@ -4,9 +4,8 @@ ghost use Rattle.lists.specs.Functions.{Within};
 ghost use Rattle.model.specs.Runs.{Call, Seen};
 ghost use Rattle.script.specs.Meaning.{line_member};
 ghost use Rattle.script_run.specs.Meaning.{Shows, Made};
-ghost use Rattle.overtaker_search.specs.Meaning.{told_overtaker};
 ghost use Rattle.overtaker_search.specs.Search.{search_of, search_start, search_begin, search_submit, search_verdict};
-ghost use Rattle.overtaker_search.specs.Search.{search_call, search_step, search_answer};
+ghost use Rattle.overtaker_search.specs.Search.{search_call, search_step, search_answer, told_first};
 
 use crate::Overtaker;
 use rules::Refusal;
@@ -14,8 +13,9 @@ use script::Line;
 use script_run::Done;
 
 // The steps so far, and the slot of the operation that each member began last. Of the operation asked for: how many its member has begun,
-// whether its submit was taken and its commit was not, its slot, and the first submit on that slot since.
-// `follows` and `slot` stand apart as in the definition `Search`, of which the theorem `lines_answered` speaks.
+// whether its submit was taken and its commit was not, its slot, and the first submit on that slot since, or 31. `follows` and `slot` stand
+// apart as in the definition `Search`, of which the theorem `lines_answered` speaks; and `first` has a number and no `Refusal`, since
+// `answer` tells it whatever it is.
 #[derive(Clone, Copy)]
 pub struct Search {
     pub steps: u32,
@@ -23,7 +23,7 @@ pub struct Search {
     pub begun: u32,
     pub follows: bool,
     pub slot: u32,
-    pub first: Option<Overtaker>,
+    pub first: Result<Overtaker, u32>,
 }
 
 impl Search {
@@ -36,7 +36,7 @@ impl Search {
             begun: 0,
             follows: false,
             slot: 0,
-            first: None,
+            first: Err(Refusal::NotOvertaken.number()),
         }
     }
 
@@ -63,8 +63,8 @@ impl Search {
         if by == member {
             self.follows = self.begun == ordinal;
             self.slot = slot;
-        } else if self.follows && slot == self.slot && self.first.is_none() {
-            self.first = Some(Overtaker {
+        } else if self.follows && slot == self.slot && self.first.is_err() {
+            self.first = Ok(Overtaker {
                 member: by,
                 step: self.steps,
             });
@@ -80,7 +80,7 @@ impl Search {
         if by == member && self.follows {
             self.follows = false;
             if accepted {
-                self.first = None;
+                self.first = Err(Refusal::NotOvertaken.number());
             }
         }
         self
@@ -109,14 +109,14 @@ impl Search {
     }
 
     // A step that made a call. The member and the ordinal stand apart as in `search_step`: `Asked` is of the crate above, with its reading.
-    #[tactic(auto, unfolding(crate::specs::Search::search_step), using(rules::proofs::Refusals::not_done))]
+    #[tactic(auto, unfolding(crate::specs::Search::search_step))]
     pub fn step(mut self, done: Done, member: u32, ordinal: u32) -> Search
         requires { (self.begun ≤ self.steps) × ((self.steps < 65536) × (Made (Some done))) }
         ensures { (call : Call) (s : Seen) → Shows done call s
             → search_of result ≡ search_step member ordinal (search_of self) call s }
     {
         self.steps += 1;
-        if done.outcome.is_err() {
+        if done.answer() != 0 {
             return self;
         }
         self.call(done, member, ordinal)
@@ -124,12 +124,12 @@ impl Search {
 
     // Nobody is named before the verdict, and where it was accepted.
     #[tactic(auto, unfolding(crate::specs::Search::search_answer))]
-    pub fn answer(self) -> Result<Overtaker, Refusal>
-        ensures { told_overtaker result ≡ search_answer (search_of self) }
+    pub fn answer(self) -> Result<Overtaker, u32>
+        ensures { told_first result ≡ search_answer (search_of self) }
     {
         if self.follows {
-            return Err(Refusal::NotOvertaken);
+            return Err(Refusal::NotOvertaken.number());
         }
-        self.first.ok_or(Refusal::NotOvertaken)
+        self.first
     }
 }

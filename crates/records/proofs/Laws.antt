@@ -5,16 +5,15 @@ use native.Mathlib.Omega.{arith}
 use mathlib.Core.Bool.{cond}
 use lib.Dec.{ltb}
 use borrow.Author.Tests.{ltb-true, ltb-false}
-use mathlib.Core.List.{List, ◌++◌}
-use lib.ListN.{length, get_or, set, replicate, length-set, take, drop}
-use lib.Seq.{get_or-take, get_or-drop}
-use Rattle.lists.specs.Functions.{numbered, pasted, put, from}
+use mathlib.Core.List.{List}
+use lib.ListN.{length, get_or, set, replicate, length-set}
+use Rattle.lists.specs.Functions.{numbered, pasted, put}
 use Rattle.lists.specs.Parts.{words, replaced}
 use Rattle.lists.proofs.Functions.{on, put_same, pasted_more, pasted_above, numbered_blank, pasted_one, pasted_join, from_at}
-use Rattle.lists.proofs.Parts.{words_set, words_zeros, words_more, words_replaced, replaced_by}
+use Rattle.lists.proofs.Parts.{words_set, words_zeros, words_more, replaced_by}
 use Rattle.model.specs.Records.{zero_value, opening, zero_record}
 use Rattle.model.specs.RecordWords.{record_size, value_of, matrix_word, record_words}
-use Rattle.laws.proofs.Records.{row_next, matrix_word-at, length-record_words, value_words, matrix_words, value_of_at, value_of_same}
+use Rattle.laws.proofs.Records.{row_next, matrix_word-at, length-record_words, value_words, matrix_words, value_of_at}
 use Rattle.rows.specs.declared.Row.{Row}
 use Rattle.rows.specs.Meaning.{matrix_in, no_row}
 use Rattle.rows.proofs.Laws.{zero_counts, zero_matrix_lem, count_at, row_at}
@@ -95,18 +94,6 @@ module _ (n : ℕ) (r : Record) (l : List ℕ) (a : ℕ) (fits : a + record_size
       ∙ pasted_join a 4 8 wanted (words r.value) (words l) value-place)
       ∙ pasted_join a 12 (n * n) wanted (matrix_word n (matrix_in r.matrix)) (words l) matrix-place
       ∙ ap (λ k. pasted a k wanted (words l)) (sym (length-record_words n (record_in r))))
-
--- A value read from eight words of a slice, and one stored in them.
-
-pub value_read : (l m : List ℕ) (a k : ℕ) → k ≡ 8 → m ≡ take k (drop a l) → value_of (words m) ≡ value_of (from (words l) a)
-unfolding from
-value_read l m a k h e = value_of_same (words m) (from (words l) a)
-    (λ i p. rw e (get_or-take k (drop a l) i 0 (omega arith) ∙ get_or-drop a l i 0))
-
-pub value_stored : (l p m : List ℕ) (a k : ℕ) → a + 8 ≤ length l → length p ≡ 8 → k ≡ 8 → m ≡ p
-    → words (take a l ++ (m ++ drop k (drop a l))) ≡ pasted a 8 (words p) (words l)
-value_stored l p m a k h long e same =
-    rw (same, e, ← long) (words_replaced l a p (omega arith))
 
 -- A row of n counts, of which i were looked at: those past the first n change nothing.
 

@@ -24,12 +24,16 @@ pub fn record_size(n: usize) -> usize
     MATRIX_AT + n * n
 }
 
+// A value is loaded and stored word by word: after `copy_from_slice` the compiler no longer knows that the table is left alone, and clears
+// and copies records once more.
 pub fn load_value(t: &[u32], at: usize) -> [u32; 8]
     requires { at + 8 ≤ length t.now }
     ensures { value_of (words result) ≡ value_of (from (words t.now) at) }
 {
     let mut value = [0u32; 8];
-    value.copy_from_slice(&t[at..at + 8]);
+    for i in 0..8 {
+        value[i] = t[at + i];
+    }
     value
 }
 
@@ -86,7 +90,9 @@ pub fn store_value(t: &mut [u32], at: usize, value: [u32; 8])
     requires { at + 8 ≤ length t.old }
     ensures { words t.new ≡ pasted at 8 (words value) (words t.old) }
 {
-    t[at..at + 8].copy_from_slice(&value);
+    for i in 0..8 {
+        t[at + i] = value[i];
+    }
 }
 
 // Count i of a row of n stored; those past the first n are not.
@@ -118,8 +124,9 @@ fn store_matrix(t: &mut [u32], at: usize, n: usize, matrix: [Row; 12])
     }
 }
 
-// The record written to the words from `at` on.
+// The record written to the words from `at` on. Always inlined: a record handed on by value is copied once more for a call.
 #[tactic(auto, unfolding(model::specs::RecordWords::record_size))]
+#[inline(always)]
 pub fn store_record(t: &mut [u32], at: usize, n: usize, r: Record)
     requires { (n ≤ 12) × (at + record_size n ≤ length t.old) }
     ensures { t.new ≡ replaced t.old at (record_words n (record_in r)) }

@@ -26,7 +26,7 @@ use Rattle.laws.proofs.Records.{value_of_same}
 use Rattle.laws.proofs.Tables.{length-table, table_zero}
 use Rattle.runs.proofs.Words.{last_held}
 use Rattle.records.proofs.Laws.{zero_value_lem}
-use Rattle.member_block.specs.Results.{returned_of}
+use Rattle.member_block.specs.Results.{returned_in, returned_of}
 use Rattle.std.specs.Prelude.{Option as CodeOption, Some, None, Result, Ok, Err, IsOk}
 use Rattle.rules.specs.Refusals.{number, answer}
 use Rattle.rules.proofs.Refusals.{refuses}
@@ -115,16 +115,16 @@ module _ (table line : List ℕ) where
   step_made read h = rw (some_call (line_of line) read h)
 
 -- What was seen at the call of a line, as it is held.
-pub call_shown : (table : List ℕ) (read : LineRead) (outcome : Result (CodeOption (List ℕ)) Refusal) (after : List ℕ) (phase : ℕ) →
-    let call = call_by read in
-    answer outcome ≡ table_answer concur table call → returned_of outcome ≡ table_returns concur table call
-    → after ≡ table_after concur table call → phase ≡ phase_words after (line_member read)
-    → Shows (record { line = read; outcome = outcome; phase = phase }) call (table_seen concur table call)
+pub call_shown : (table : List ℕ) (d : Done) (after : List ℕ) →
+    let call = call_by d.line in
+    d.answer ≡ table_answer concur table call → returned_in d.returned ≡ table_returns concur table call
+    → after ≡ table_after concur table call → d.phase ≡ phase_words after (line_member d.line)
+    → Shows d call (table_seen concur table call)
 unfolding table_seen
-call_shown table read outcome after phase a r t p = record {
+call_shown table d after a r t p = record {
   made = refl;
   answer = sym a;
-  phase = ap (λ l. phase_words l (line_member read)) (sym t) ∙ sym p;
+  phase = ap (λ l. phase_words l (line_member d.line)) (sym t) ∙ sym p;
   returned = sym r;
 }
 
@@ -140,8 +140,7 @@ malformed_shown k none h = refl
 malformed_shown k (some s) h = absurd h
 
 pub step_shown : (k : ℕ) (d : Done) (s : Option Step) → StepHeld (Some d) s
-    → printed_step k s ≡ printed_line k (answer d.outcome)
-    (cond (eqb (answer d.outcome) 4) none (some d.phase)) (last_word (returned_of d.outcome))
+    → printed_step k s ≡ printed_line k d.answer (cond (eqb d.answer 4) none (some d.phase)) (last_word (returned_in d.returned))
 unfolding printed_step
 step_shown k d none h = absurd h
 step_shown k d (some (step call s)) h = rw (h.answer, ap caller h.made ∙ caller_by d.line, h.phase, h.returned)
@@ -157,10 +156,9 @@ module _ (e : EventSeen) (l : List Event) (h : EventsHeld (Some e) l) where
   unfolding printed_events
   one_shown = rw (h.1, append-nil)
 
-pub refused_shown : (refusal : Refusal) (l : List Event) → EventsHeld (Some (Refused refusal)) l
-    → printed_events l ≡ refused_line (number refusal)
+pub refused_shown : (number : ℕ) (l : List Event) → EventsHeld (Some (Refused number)) l → printed_events l ≡ refused_line number
 unfolding printed_event
-refused_shown refusal l h = one_shown (Refused refusal) l h ∙ rw h.2
+refused_shown number l h = one_shown (Refused number) l h ∙ rw h.2
 
 pub opened_shown : (n : ℕ) (l : List Event) → EventsHeld (Some (Opened n)) l → printed_events l ≡ board_line n
 unfolding printed_event

@@ -52,6 +52,6 @@ line_made l line d w h = call_made l (line_call line) d w h
 -- what is known of the step among events that are held
 pub made_in : (e : CodeOption EventSeen) (l : List Event) → EventsHeld e l → MadeIn e
 made_in None l h = tt
-made_in (Some (Refused refusal)) l h = tt
+made_in (Some (Refused number)) l h = tt
 made_in (Some (Opened n)) l h = tt
 made_in (Some (StepSeen k d)) l h = h.2.made

@@ -21,8 +21,6 @@ use Rattle.script.specs.Meaning.{longest_printed}
 use Rattle.script_run.specs.Feeding.{State, Event, refuses, opens, steps, Fed, most_kept, over_step, over, start, keep, ended}
 use Rattle.script_run.specs.Feeding.{first_run, step_run, line_run, silent, byte_fed, fed, last_events, printed_events}
 use Rattle.std.specs.Prelude.{Some, None}
-use Rattle.rules.specs.Refusals.{number}
-use Rattle.rules.specs.declared.refusal.Refusal.{Refusal}
 use Rattle.script_run.specs.Meaning.{EventHeld, EventsHeld, Whole, most_words, state_of, Ready, Ran, Took, Wrote, FedInto}
 use Rattle.script_run.specs.declared.Progress.{Progress}
 use Rattle.script_run.specs.declared.Event.TheVariants.{Refused}
@@ -106,15 +104,15 @@ kept_state p table kept b count kept' h e k =
 -- What the code leaves at the end of a line.
 
 module _ (p : Progress) (table kept : List ℕ) (ready : Ready p table kept) (run : Fed) (r : Ended) where
-  pub refused_ran : (refusal : Refusal) → run ≡ ended over_step (take p.size table) (refuses (number refusal))
-      → r ≡ record { progress = record { step = over_step; size = p.size; kept = 0 }; event = Refused refusal } → Ran run r table kept
+  pub refused_ran : (number : ℕ) → run ≡ ended over_step (take p.size table) (refuses number)
+      → r ≡ record { progress = record { step = over_step; size = p.size; kept = 0 }; event = Refused number } → Ran run r table kept
   unfolding state_of
-  refused_ran refusal e g = record {
+  refused_ran number e g = record {
     ready =
         rw g
         (record { room = ready.room; keeps = ready.keeps; line = omega arith; size = ready.size; whole = λ a b. absurd (omega arith) });
     state = ap (λ q. state_of q.progress table kept) g ∙ ap (λ f. f.state) (sym e);
-    events = rw (g, e) (refuses (number refusal), refl, refl);
+    events = rw (g, e) (refuses number, refl, refl);
   }
 
   -- the table's part was lent and came back as `part`

@@ -11,8 +11,7 @@ use Rattle.model.specs.Table.{table_words}
 use Rattle.model.specs.Script.{first_of, most_steps}
 use Rattle.rules.specs.Refusals.{number}
 use Rattle.rules.specs.declared.refusal.Refusal.{Refusal}
-use Rattle.rules.specs.Refusals.{answer}
-use Rattle.member_block.specs.Results.{returned_of}
+use Rattle.member_block.specs.Results.{returned_in}
 use Rattle.script.specs.Meaning.{line_member, Printed}
 use Rattle.script.specs.declared.Line.{Line as LineRead}
 use Rattle.script.specs.declared.Line.TheVariants.{Write, Read, Deliver, Crash}
@@ -39,9 +38,9 @@ call_by (Crash m) = crash m
 -- a call as the code holds it, and what was seen at it: the answer, the caller's phase, and the value returned
 pub record Shows (d : Done) (call : Call) (s : Seen) : Type 0 where
   pub made : call ≡ call_by d.line
-  pub answer : s.answer ≡ answer d.outcome
+  pub answer : s.answer ≡ d.answer
   pub phase : s.phases (line_member d.line) ≡ d.phase
-  pub returned : s.returned ≡ returned_of d.outcome
+  pub returned : s.returned ≡ returned_in d.returned
 
 -- a step as the code holds it: a malformed line makes no call
 abbrev pub StepHeld : Option Done → Given Step → Type 0
@@ -53,7 +52,7 @@ StepHeld (Some d) (some (step call s)) = Shows d call s
 -- a step whose answer is 0 is one of a member's
 abbrev pub Made : Option Done → Type 0
 Made None = Unit {0}
-Made (Some d) = answer d.outcome ≡ 0 → Within 12 (line_member d.line)
+Made (Some d) = d.answer ≡ 0 → Within 12 (line_member d.line)
 
 -- an event as the code holds it: a board that was opened has 12 members at most
 pub record StepIs (k : ℕ) (done : Option Done) (event : Event) : Type 0 where
@@ -63,7 +62,7 @@ pub record StepIs (k : ℕ) (done : Option Done) (event : Event) : Type 0 where
   pub made : Made done
 
 abbrev pub EventHeld : EventSeen → Event → Type 0
-EventHeld (Refused refusal) event = event ≡ refuses (number refusal)
+EventHeld (Refused number) event = event ≡ refuses number
 EventHeld (Opened n) event = (event ≡ opens n) × (n ≤ 12)
 EventHeld (StepSeen k done) event = StepIs k done event
 
@@ -75,7 +74,7 @@ EventsHeld (Some e) l = (event : Event) × (l ≡ event ∷ []) × EventHeld e e
 -- what is known of the step among them
 abbrev pub MadeIn : Option EventSeen → Type 0
 MadeIn None = Unit {0}
-MadeIn (Some (Refused refusal)) = Unit {0}
+MadeIn (Some (Refused number)) = Unit {0}
 MadeIn (Some (Opened n)) = Unit {0}
 MadeIn (Some (StepSeen k done)) = Made done
 

@@ -4,7 +4,7 @@ ghost use Rattle.std.proofs.Math.Option.{none};
 ghost use Rattle.model.specs.Kinds.{concur};
 ghost use Rattle.model.specs.TableCalls.{table_answer, table_after, table_returns, phase_words};
 ghost use Rattle.rules.specs.Refusals.{answer};
-ghost use Rattle.member_block.specs.Results.{returned_of};
+ghost use Rattle.member_block.specs.Results.{returned_in, returned_of};
 ghost use Rattle.script_run.specs.Meaning.{call_by, Whole};
 
 use board::{begin, crash, deliver};
@@ -37,6 +37,17 @@ pub fn make_call(table: &mut [u32], line: Line) -> Result<Option<[u32; 8]>, Refu
         Line::Read { member, slot } => { no_value(begin(table, member, slot, READ, [0; 8])) }
         Line::Deliver { member } => deliver(table, member),
         Line::Crash { member } => no_value(crash(table, member)),
+    }
+}
+
+// What is kept of a call's outcome: the number that it answers, and the value where it returns one.
+pub fn outcome_parts(outcome: Result<Option<[u32; 8]>, Refusal>) -> (u32, Option<[u32; 8]>)
+    ensures number_value { result.0 ≡ answer outcome }
+    ensures result_value { returned_in result.1 ≡ returned_of outcome }
+{
+    match outcome {
+        Ok(returned) => (0, returned),
+        Err(refusal) => (refusal.number(), None),
     }
 }
 

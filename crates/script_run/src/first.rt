@@ -38,7 +38,7 @@ pub fn run_first(table: &mut [u32], kept: &[u8], p: Progress) -> Ended
                 size: p.size,
                 kept: 0,
             },
-            event: Event::Refused(refusal),
+            event: Event::Refused(refusal.number()),
         },
         Ok(n) => {
             let size = table_size(n as usize);

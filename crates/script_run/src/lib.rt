@@ -3,10 +3,8 @@
 
 ghost use Rattle.std.specs.Prelude.{List, [], ◌∷◌, ◌≡◌, ℕ};
 ghost use Rattle.script_run.specs.Feeding.{over};
-ghost use Rattle.rules.specs.Refusals.{answer};
 ghost use Rattle.script_run.specs.Meaning.{state_of};
 
-use rules::Refusal;
 use script::{LONGEST_LINE, Line};
 
 mod calls;
@@ -45,31 +43,30 @@ impl Progress {
     }
 }
 
-// What the call of a step's line did: the line, what refused it or the value returned, and the member's phase after it.
+// What the call of a step's line did: the line, what it answered by number, 0 where it was done, the value returned, if there is one, and
+// the member's phase after it. A number and no `Refusal`: a step is printed and billed whatever it answers, and whatever it returns beside.
 #[derive(Clone, Copy)]
 pub struct Done {
     pub line: Line,
-    pub outcome: Result<Option<[u32; 8]>, Refusal>,
+    pub answer: u32,
+    pub returned: Option<[u32; 8]>,
     pub phase: u32,
 }
 
 impl Done {
-    // What the call answered by number: 0 where it was done.
+    // What the call answered.
     pub fn answer(self) -> u32
-        ensures { result ≡ answer self.outcome }
+        ensures { result ≡ self.answer }
     {
-        match self.outcome {
-            Ok(_) => 0,
-            Err(refusal) => refusal.number(),
-        }
+        self.answer
     }
 }
 
 // What happened where a line ended.
 #[derive(Clone, Copy)]
 pub enum Event {
-    // The first line was refused.
-    Refused(Refusal),
+    // The first line was refused with that number.
+    Refused(u32),
     // A board of so many members was opened.
     Opened(u32),
     // The line of that number was a step: what its call did, and none where it is malformed and makes no call, which is answered 17.

@@ -5,7 +5,7 @@ ghost use Rattle.model.specs.Script.{step_line, most_steps};
 ghost use Rattle.script_run.specs.Feeding.{most_kept, keep, line_run};
 ghost use Rattle.script_run.specs.Meaning.{StepHeld, Made, Whole, state_of, Ready, Ran};
 
-use crate::calls::{make_call, phase_of};
+use crate::calls::{make_call, outcome_parts, phase_of};
 use crate::first::run_first;
 use crate::{Done, Ended, Event, MOST_KEPT, Progress};
 use script::parse_line;
@@ -20,10 +20,12 @@ pub fn run_line(table: &mut [u32], line: &[u8]) -> Option<Done>
     let line = parse_line(line)?;
     let member = line.member();
     let outcome = make_call(table, line);
+    let (answer, returned) = outcome_parts(outcome);
     let phase = phase_of(table, member);
     Some(Done {
         line,
-        outcome,
+        answer,
+        returned,
         phase,
     })
 }

@@ -6,7 +6,7 @@ ghost use Rattle.model.specs.Kinds.{concur};
 ghost use Rattle.model.specs.Runs.{Step};
 ghost use Rattle.model.specs.Script.{last_word, printed_step};
 ghost use Rattle.script.specs.Meaning.{given, longest_printed};
-ghost use Rattle.member_block.specs.Results.{returned_of};
+ghost use Rattle.member_block.specs.Results.{returned_in};
 ghost use Rattle.script_run.specs.Feeding.{Event as Happened, last_events, printed_events};
 ghost use Rattle.script_run.specs.Meaning.{StepHeld, EventsHeld, state_of, Ready, Took, Wrote, FedInto, Finished};
 
@@ -75,14 +75,11 @@ fn shown_phase(answer: u32, phase: u32) -> Option<u32>
 
 // The last word of the value that a call returned.
 #[tactic(auto, using(crate::proofs::Held::last_word_lem), unfolding(model::specs::Script::last_word))]
-fn returned_word(outcome: Result<Option<[u32; 8]>, Refusal>) -> Option<u32>
-    ensures { given result ≡ last_word (returned_of outcome) }
+fn returned_word(returned: Option<[u32; 8]>) -> Option<u32>
+    ensures { given result ≡ last_word (returned_in returned) }
 {
-    match outcome {
-        Ok(Some(value)) => Some(value[7]),
-        Ok(None) => None,
-        Err(_) => None,
-    }
+    let value = returned?;
+    Some(value[7])
 }
 
 // The line printed of a step. A malformed line is answered 17, and shows no phase.
@@ -95,11 +92,12 @@ fn print_step(out: &mut [u8], at: usize, step: u32, done: Option<Done>) -> usize
     };
     let answer = done.answer();
     let phase = shown_phase(answer, done.phase);
-    let word = returned_word(done.outcome);
+    let word = returned_word(done.returned);
     print_line(out, at, step, answer, phase, word)
 }
 
 // What is printed of an event.
+#[tactic(auto, using(script::proofs::Printing::board_short, script::proofs::Printing::refused_short))]
 pub fn print_event(out: &mut [u8], at: usize, event: Option<Event>) -> usize
     requires { at + longest_printed ≤ length out.old }
     ensures { (l : List Happened) → EventsHeld event l → Wrote out.old out.new at (printed_events l) result }
@@ -108,7 +106,7 @@ pub fn print_event(out: &mut [u8], at: usize, event: Option<Event>) -> usize
         return at;
     };
     match event {
-        Event::Refused(refusal) => print_refused(out, at, refusal.number()),
+        Event::Refused(number) => print_refused(out, at, number),
         Event::Opened(n) => print_board(out, at, n),
         Event::Step { number, done } => print_step(out, at, number, done),
     }

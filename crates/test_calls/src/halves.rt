@@ -13,7 +13,7 @@ ghost use Rattle.test_calls.specs.Beside.{beside, beside_two};
 ghost use Rattle.test_calls.specs.Handed.{record_due, both_due, number_due, record_given, replied_words};
 
 use crate::words::{BOTH_WORDS, RECORD_WORDS, VALUE_WORDS, load_at, store_both};
-use board::steps::hand_out;
+use board::steps::hand_returned;
 use host::{take_commit, take_submit};
 use member::{auction, begin, crash, take_outcome, take_reply};
 use records::Record;
@@ -135,11 +135,11 @@ pub extern "C" fn concur_call_member_outcome(
     }
     match take_outcome(block, n, member, outcome) {
         Ok(value) => {
-            hand_out(returned, value);
+            hand_returned(returned, value);
             0
         }
         Err(refusal) => {
-            hand_out(returned, None);
+            hand_returned(returned, None);
             refusal.number()
         }
     }

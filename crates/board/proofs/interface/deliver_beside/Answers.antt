@@ -10,7 +10,7 @@ use Rattle.board.specs.Interface.{Beside, returned_size, returned_words}
 use Rattle.board.proofs.Answers.{call_returns, of_deliver}
 use Rattle.board.proofs.Beside.{done-beside, long-beside, own_beside, returned_kept, returned_written}
 use Rattle.board.proofs.interface.deliver_beside.Goals as goal
-use Rattle.board.proofs.interface.deliver_beside.Goals.{After-from_residual, After-hand_out, In_err-value, Then-returned-ne9}
+use Rattle.board.proofs.interface.deliver_beside.Goals.{After-from_residual, After-hand_returned, In_err-value, Then-returned-ne9}
 
 own : (c : After-from_residual) → let a = c.args in
     Beside concur (length a.returned.now) returned_size a.table.now (deliver a.member) (answer c.from_residual.result) a.table.now
@@ -31,7 +31,7 @@ refused c =
     done-beside concur _ _ _ _ (of_deliver concur _ _ checked.number_value) c.if-returned-ne9.false checked.sound
     c.in_err-value.ensures.answered
 
-done : (c : After-hand_out) → let a = c.args in
+done : (c : After-hand_returned) → let a = c.args in
     Beside concur (length a.returned.now) returned_size a.table.now (deliver a.member) 0 c.deliver_on.new.table
 done c =
     let checked = c.in_ok-n.ensures in
@@ -81,15 +81,15 @@ deliver_on-requires c = c.in_ok-n.ensures.sound
 
 pub returns-clause-value : goal.returns-clause-value
 returns-clause-value c =
-    (done (goal.at.returns-clause-value c).After-hand_out).0
+    (done (goal.at.returns-clause-value c).After-hand_returned).0
 
 pub returns-clause-table_after : goal.returns-clause-table_after
 returns-clause-table_after c =
-    (done (goal.at.returns-clause-table_after c).After-hand_out).1
+    (done (goal.at.returns-clause-table_after c).After-hand_returned).1
 
 pub returns-clause-returned_after : goal.returns-clause-returned_after
 returns-clause-returned_after c =
     let checked = c.in_ok-n.ensures in
     let value = call_returns concur _ c.deliver_on.new.table _ checked.sound (of_deliver concur _ _ checked.number_value)
     c.in_ok-value.ensures.result_value in
-    returned_written _ _ _ (done (goal.at.returns-clause-returned_after c).After-hand_out).0 (c.hand_out.ensures ∙ ap returned_words value)
+    returned_written _ _ _ (done (goal.at.returns-clause-returned_after c).After-hand_returned).0 (c.hand_returned.ensures ∙ ap returned_words value)

@@ -2,15 +2,16 @@
 -- leaves that so.
 use Rattle.std.proofs.Common.{rules, ◌≡◌, ◌∷◌, ℕ, ◌+◌, ◌≤◌, List, [], length, nat_eq, Some, None}
 use borrow.Author.Tests.{tests, eqb-true, eqb-false}
-use mathlib.Core.Path.{sym, ap, ◌∙◌}
+use mathlib.Core.Path.{refl, sym, ap, subst, ◌∙◌}
 use native.Mathlib.Omega.{arith}
 use Rattle.std.specs.Option.{unwrap_or}
 use Rattle.std.specs.Iterator.Adapters.{enumerate_source, enumerate_count}
 use Rattle.model.specs.Overtaker.{most_bytes}
 use Rattle.script_run.proofs.Held.{step_whole}
-use Rattle.overtaker_search.specs.Search.{search_of, search_start, lines_searched}
-use Rattle.overtaker_search.proofs.LineTaken.{held_counts, search_ends, search_goes}
+use Rattle.overtaker_search.specs.Search.{Search, search_of, search_start, lines_searched}
+use Rattle.overtaker_search.proofs.LineTaken.{NamedOr31, answer_named, held_counts, held_named, search_ends, search_goes}
 use Rattle.overtaker.specs.Lines.{lines_left}
+use Rattle.overtaker.proofs.Answers.{as_refused}
 use Rattle.overtaker.proofs.NextLine.{ahead, first_ahead, skips-line, runs-line, none_ahead}
 use Rattle.overtaker.proofs.passes.search_lines.Goals as goal
 use Rattle.overtaker.proofs.passes.search_lines.Goals.{In-Some, After-is_some_and, Then-is_some_and, Else-is_some_and}
@@ -54,6 +55,7 @@ loop-passed-init c =
       few = omega (arith, ap length lines, none, c.requires.1);
       begun = omega (arith, ap (λ x. x.begun) e);
       steps = omega (arith, ap (λ x. x.steps) e);
+      named = subst (λ (x : Search). NamedOr31 x.first) (sym e) refl;
       same = rw (lines, none, e) (ap (lines_searched a.asked.member a.asked.ordinal a.table.now search_start)
           (first_ahead (unwrap_or a.skip 0) (lines_left a.lines)));
     }
@@ -68,6 +70,7 @@ loop-passed-preserved-then-is_some_and c =
       few = few here;
       begun = i.begun;
       steps = omega (arith, i.steps, number here);
+      named = i.named;
       same = rw (number here) (i.same ∙ ap (λ l. lines_searched a.asked.member a.asked.ordinal c.loop-passed.table
           (search_of c.loop-passed.search) (ahead (unwrap_or a.skip 0) (enumerate_count c.loop-passed.passed-iterator) l)) (left here)
           ∙ ap (lines_searched a.asked.member a.asked.ordinal c.loop-passed.table (search_of c.loop-passed.search))
@@ -116,6 +119,7 @@ loop-passed-preserved c =
       few = few at;
       begun = omega (arith, i.begun, counts.0, counts.1);
       steps = omega (arith, i.steps, counts.0, number at);
+      named = held_named a.asked.member a.asked.ordinal c.loop-passed.search c.step-search.result d _ held c.step-search.ensures i.named;
       same = i.same
           ∙ ap (lines_searched a.asked.member a.asked.ordinal c.loop-passed.table (search_of c.loop-passed.search)) (runs here)
           ∙ search_goes a.asked.member a.asked.ordinal c.in-Some.line.now
@@ -128,7 +132,10 @@ unfolding lines_searched
 returns c =
     let a = c.args in
     let none : lines_left (enumerate_source c.loop-passed.passed-iterator) ≡ [] = search rules in
-    c.answer.ensures
+    as_refused c.answer.result c.map_err.result
+    (subst NamedOr31 (sym c.answer.ensures) (answer_named (search_of c.loop-passed.search) c.loop-passed.invariant.named))
+    (search rules)
+    ∙ c.answer.ensures
     ∙ sym (c.loop-passed.invariant.same
     ∙ ap (λ l. lines_searched a.asked.member a.asked.ordinal c.loop-passed.table (search_of c.loop-passed.search)
     (ahead (unwrap_or a.skip 0) (enumerate_count c.loop-passed.passed-iterator) l)) none

@@ -9,7 +9,7 @@ use Rattle.lists.proofs.Functions.{inside_in}
 use Rattle.model.specs.Board.{opened}
 use Rattle.model.specs.Table.{table_words}
 use Rattle.laws.proofs.Tables.{length-table}
-use Rattle.script_run.specs.Feeding.{opens, ended}
+use Rattle.script_run.specs.Feeding.{refuses, opens, over_step, ended}
 use Rattle.script_run.specs.Meaning.{first_line}
 use Rattle.script_run.proofs.Held.{whole_words, opened_words, opened_done}
 use Rattle.script_run.proofs.States.{refused_ran, ended-ran}
@@ -46,8 +46,9 @@ unwrap-requires c =
 pub returns-in-Err : goal.returns-in-Err
 returns-in-Err c =
     let a = c.args in
-    refused_ran a.p a.table.now a.kept.now c.requires (first_line a.p a.table.now a.kept.now) _ c.in-Err.refusal
-    (c.in-Err.ensures.ends (take a.p.size a.table.now)) refl
+    let table = take a.p.size a.table.now in
+    refused_ran a.p a.table.now a.kept.now c.requires (first_line a.p a.table.now a.kept.now) _ c.number.result
+    (c.in-Err.ensures.ends table ∙ ap (λ k. ended over_step table (refuses k)) (sym c.number.ensures)) refl
 
 pub returns-in-Ok : goal.returns-in-Ok
 returns-in-Ok c =

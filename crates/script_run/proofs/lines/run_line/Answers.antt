@@ -15,15 +15,18 @@ use Rattle.script_run.proofs.lines.run_line.Goals.{After-phase_of-phase}
 -- What is known at the end.
 
 abbrev done : After-phase_of-phase → Done
-done c = record { line = c.in_ok-line.line; outcome = c.make_call-outcome.result; phase = c.phase_of-phase.result }
+done c =
+    let parts = c.outcome_parts-answer.result in
+    record { line = c.in_ok-line.line; answer = parts.0; returned = parts.1; phase = c.phase_of-phase.result }
 
 held : (c : After-phase_of-phase) → StepHeld (Some (done c)) (step_line concur c.args.table.now c.args.line.now).happened
 held c =
-    let read = c.in_ok-line.line in
     let m = c.make_call-outcome in
-    rw (step_made c.args.table.now c.args.line.now read c.in_ok-line.ensures)
-    (call_shown c.args.table.now read m.result m.new.table c.phase_of-phase.result m.ensures.number_value m.ensures.result_value
-    m.ensures.table_after (c.phase_of-phase.ensures ∙ ap (phase_words m.new.table) c.member-member.ensures))
+    let parts = c.outcome_parts-answer.ensures in
+    rw (step_made c.args.table.now c.args.line.now c.in_ok-line.line c.in_ok-line.ensures)
+    (call_shown c.args.table.now (done c) m.new.table (parts.number_value ∙ m.ensures.number_value)
+    (parts.result_value ∙ m.ensures.result_value) m.ensures.table_after
+    (c.phase_of-phase.ensures ∙ ap (phase_words m.new.table) c.member-member.ensures))
 
 -- The goals.
 

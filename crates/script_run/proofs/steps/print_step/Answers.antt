@@ -11,7 +11,7 @@ use Rattle.std.specs.Prelude.{None}
 use Rattle.model.specs.Script.{last_word, printed_line}
 use Rattle.script.specs.Meaning.{given}
 use Rattle.script.proofs.Printing.{line_short}
-use Rattle.member_block.specs.Results.{returned_of}
+use Rattle.member_block.specs.Results.{returned_in}
 use Rattle.script_run.proofs.Held.{malformed_shown, step_shown, wrote}
 use Rattle.script_run.proofs.steps.print_step.Goals as goal
 use Rattle.script_run.proofs.steps.print_step.Goals.{After-number, After-returned_word-word}
@@ -52,7 +52,7 @@ returns c s h =
     let k = c.args.step in
     let answer = c.answer-answer.result in
     let phase = c.in-Some.done.phase in
-    let word = last_word (returned_of c.in-Some.done.outcome) in
+    let word = last_word (returned_in c.in-Some.done.returned) in
     let parts : printed_line k answer (given c.shown_phase-phase.result) (given c.returned_word-word.result)
     ≡ printed_line k answer (cond (eqb answer 4) none (some phase)) word = λ i.
     printed_line k answer (c.shown_phase-phase.ensures i) (c.returned_word-word.ensures i) in

@@ -7,4 +7,4 @@ use Rattle.overtaker_search.proofs.steps.Search.start.Goals as goal
 
 pub returns : goal.returns
 unfolding search_start
-returns c = rw (words_zeros 12, numbered_blank {A = ℕ} 12 0)
+returns c = rw (c.number.ensures, words_zeros 12, numbered_blank {A = ℕ} 12 0)
