@@ -10,7 +10,7 @@ ghost use Rattle.bill.specs.Meaning.{Going, CountedAll};
 use bill::Counted;
 use bill::steps::{feed, finish};
 use script_run::{MOST_KEPT, MOST_WORDS, Progress};
-use streams::{Reported, read_some, write_out};
+use streams::{MOST_TURNS, Reported, read_some, turns_left, write_out};
 use tariff::Accounts;
 
 // What was counted so far, and whether there may be more to read.
@@ -55,13 +55,13 @@ fn run(
         progress: Progress::START,
         accounts: Accounts::start(),
     };
-    'pieces: for _ in 0..u64::MAX {
+    let mut turns = MOST_TURNS;
+    // No `for` over a range of turns: that `turns_left` leaves fewer is what ends it.
+    while 0 < turns {
         let got = read_some(rt, input)?;
         let turn = take_piece(table, kept, counted, &input[..got]);
         counted = turn.counted;
-        if !turn.more {
-            break 'pieces;
-        }
+        turns = turns_left(turns, turn.more);
     }
     let last = finish(table, kept, counted, out);
     write_out(rt, &out[..last])

@@ -9,7 +9,7 @@ ghost use Rattle.script_run.specs.Meaning.{most_words, state_of, Ready};
 
 use script_run::steps::{feed, finish};
 use script_run::{MOST_KEPT, MOST_WORDS, Progress};
-use streams::{Reported, read_some, write_out};
+use streams::{MOST_TURNS, Reported, read_some, turns_left, write_out};
 
 // How far the script has come, and whether there may be more to read.
 #[derive(Clone, Copy)]
@@ -85,13 +85,13 @@ fn run(
     requires { (length table.old ≡ most_words) × ((length kept.old ≡ most_kept) × (longest_printed ≤ length out.old)) }
 {
     let mut progress = Progress::START;
-    'pieces: for _ in 0..u64::MAX {
+    let mut turns = MOST_TURNS;
+    // No `for` over a range of turns: that `turns_left` leaves fewer is what ends it.
+    while 0 < turns {
         let got = read_some(rt, input)?;
         let turn = take_piece(rt, table, kept, progress, &input[..got], out)?;
         progress = turn.progress;
-        if !turn.more {
-            break 'pieces;
-        }
+        turns = turns_left(turns, turn.more);
     }
     let last = finish(table, kept, progress, out);
     write_out(rt, &out[..last])

@@ -1,7 +1,7 @@
 // Standard input and output for the programs, and what standard error says where one of them fails.
 #![tactic(auto)]
 
-ghost use Rattle.std.specs.Prelude.{◌≤◌, length, IfOk};
+ghost use Rattle.std.specs.Prelude.{◌-◌, ◌≤◌, ◌<◌, ◌≡◌, cond, length, IfOk};
 
 use std::io;
 use std::io::Read;
@@ -28,6 +28,23 @@ pub fn read_some(rt: &(impl io::Input + Eprint), buffer: &mut [u8]) -> Result<us
     rt.reader()
         .read(buffer)
         .map_err(|error| report(rt, "standard input", error))
+}
+
+// A proved loop has to end, so that a program which reads until nothing more comes counts its turns down, from this number, which no run
+// uses up.
+pub const MOST_TURNS: u64 = u64::MAX;
+
+// One turn fewer, or none where there is no more to read.
+pub fn turns_left(turns: u64, more: bool) -> u64
+    ensures { (result ≡ cond more (turns - 1) 0) × (0 < turns → result < turns) }
+{
+    if !more {
+        return 0;
+    }
+    if turns == 0 {
+        return 0;
+    }
+    turns - 1
 }
 
 // Reads until the input is over or the buffer is full, and answers how many bytes it got.

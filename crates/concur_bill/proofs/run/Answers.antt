@@ -3,8 +3,8 @@ use mathlib.Core.Path.{refl}
 use Rattle.bill.proofs.Lines.{start_going}
 use Rattle.concur_bill.proofs.run.Goals as goal
 
-pub pieces-init : goal.pieces-init
-pieces-init g c =
+pub loop-turns-init : goal.loop-turns-init
+loop-turns-init g c =
     let a = c.args in
     let s = c.start in
     record {

@@ -13,5 +13,8 @@ pub record Left (table kept input out : List ℕ) (c : Counted) (table' kept' in
   pub input-long : length input' ≡ length input
   pub room : longest_bill ≤ length out
 
-abbrev pub invariant-pieces : goal.invariant-pieces
-invariant-pieces g l = Left l.initial.table l.initial.kept l.initial.input l.out l.counted l.table l.kept l.input
+abbrev pub invariant-loop-turns : goal.invariant-loop-turns
+invariant-loop-turns g l = Left l.initial.table l.initial.kept l.initial.input l.out l.counted l.table l.kept l.input
+
+abbrev pub decreases-loop-turns : goal.decreases-loop-turns
+decreases-loop-turns g l = l.turns

@@ -14,6 +14,9 @@ pub record Left (table kept input out : List ℕ) (q : Progress) (table' kept' i
   pub out-long : length out' ≡ length out
   pub room : longest_printed ≤ length out'
 
-abbrev pub invariant-pieces : goal.invariant-pieces
-invariant-pieces g l =
+abbrev pub invariant-loop-turns : goal.invariant-loop-turns
+invariant-loop-turns g l =
     Left l.initial.table l.initial.kept l.initial.input l.initial.out l.progress l.table l.kept l.input l.out
+
+abbrev pub decreases-loop-turns : goal.decreases-loop-turns
+decreases-loop-turns g l = l.turns
